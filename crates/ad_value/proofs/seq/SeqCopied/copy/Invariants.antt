@@ -1,0 +1,6 @@
+-- The copy so far is the front of the list.
+use Rattle.std.proofs.Common.{◌≡◌, take}
+use Rattle.ad_value.proofs.seq.SeqCopied.copy.Given as goal
+
+abbrev pub invariant-loop-item : goal.invariant-loop-item
+invariant-loop-item g l = l.list ≡ take l.item-index l.item-items

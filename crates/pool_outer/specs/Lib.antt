@@ -1,0 +1,3 @@
+pub mod Cause
+pub mod Files
+pub mod Children
