@@ -1,0 +1,5 @@
+pub mod FormLines
+pub mod Amounts
+pub mod Lines
+pub mod Pieces
+pub mod ThreeWords

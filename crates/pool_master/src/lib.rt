@@ -1,0 +1,10 @@
+//! The run of a pool, from the command's words to the printed user log.
+#![tactic(auto)]
+
+mod files;
+mod form;
+mod output;
+mod status;
+mod words;
+
+pub use status::{Kind, Status};

@@ -1,0 +1,110 @@
+ghost use Rattle.std.specs.Prelude.{◌≡◌, IfOk};
+ghost use Rattle.pool_master.specs.Status.{line_of, number_of};
+
+use ad_value::{Memory, Text};
+use pool_outer::Which;
+use std::alloc::Global;
+
+/// Why an input file isn't accepted.
+#[derive(Clone, Copy, Debug, PartialEq, Eq)]
+pub enum Kind {
+    /// There is no such file.
+    Missing,
+    /// It isn't of the one small form that is built today.
+    NotBuilt,
+}
+
+/// How a run ended.
+#[derive(Debug, Drop)]
+pub enum Status {
+    /// The pool was closed, and no job is left in its queue.
+    Done,
+    /// The words aren't of the form.
+    Usage,
+    /// That file is missing (line 0) or refused at that line; lines count from 1.
+    Input { file: Text, line: u32, kind: Kind },
+    /// The pool was closed, and a job is left in its queue.
+    Stuck,
+    /// The store failed.
+    DiskFault,
+    /// The output failed.
+    OutFault,
+    /// Memory ran out.
+    Memory,
+    /// That line of the queue log is none.
+    BadLog { line: u64 },
+    /// That limit of the pool was reached.
+    Limit { which: Which },
+}
+
+impl Status {
+    /// The line for a person, without newline; empty where the pool was closed.
+    pub fn line(&self, alloc: Global) -> Result<Text, Memory>
+        ensures { IfOk result (λ t. t ≡ line_of self.now) }
+    {
+        let line = match self {
+            Status::Done | Status::Stuck => String::new(alloc),
+            Status::Usage => String::from_str(alloc, "usage: condor_pool run CONFIG SUBMIT")?,
+            Status::Input { file, line, kind } => {
+                format!(in alloc; "input: {file}:{line}: {}", kind.name())?
+            }
+            Status::DiskFault => String::from_str(alloc, "disk fault")?,
+            Status::OutFault => String::from_str(alloc, "output fault")?,
+            Status::Memory => String::from_str(alloc, "out of memory")?,
+            Status::BadLog { line } => format!(in alloc; "log: line {line}")?,
+            Status::Limit { which } => format!(in alloc; "limit: {}", name_of(*which))?,
+        };
+        Ok(Text::from(line))
+    }
+
+    /// The program's exit status.
+    pub fn number(&self) -> u8
+        ensures { result ≡ number_of self.now }
+    {
+        match self {
+            Status::Done => 0,
+            Status::Usage => 1,
+            Status::Input { .. } => 2,
+            Status::Stuck => 3,
+            Status::DiskFault => 4,
+            Status::OutFault => 5,
+            Status::Memory => 6,
+            Status::BadLog { .. } => 7,
+            Status::Limit { .. } => 8,
+        }
+    }
+}
+
+impl Kind {
+    ghost use Rattle.std.specs.Prelude.{◌≡◌};
+    ghost use Rattle.pool_master.specs.Status.{kind_name};
+
+    pub fn name(self) -> &'static str
+        ensures { result.now ≡ kind_name self }
+    {
+        match self {
+            Kind::Missing => "Missing",
+            Kind::NotBuilt => "NotBuilt",
+        }
+    }
+}
+
+ghost use Rattle.pool_master.specs.Status.{limit_name};
+
+fn name_of(which: Which) -> &'static str
+    ensures { result.now ≡ limit_name which }
+{
+    match which {
+        Which::Machines => "Machines",
+        Which::Slots => "Slots",
+        Which::Jobs => "Jobs",
+        Which::Attributes => "Attributes",
+        Which::LogLine => "LogLine",
+        Which::Input => "Input",
+        Which::Bytes => "Bytes",
+        Which::Roll => "Roll",
+        Which::Events => "Events",
+        Which::Users => "Users",
+        Which::Boots => "Boots",
+    }
+}
