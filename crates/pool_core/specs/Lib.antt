@@ -1,0 +1,5 @@
+pub mod Events
+pub mod Answers
+pub mod Reactions
+pub mod Histories
+pub mod CourseValue

@@ -1,0 +1,94 @@
+ghost use Rattle.std.specs.Prelude.{◌≡◌, ◌≢◌, [], ◌∷◌, ◌++◌, None, Some, IfOk, IfErr, OnErr, OnOk};
+ghost use Rattle.pool_core.specs.Answers.{kept_of};
+ghost use Rattle.pool_core.specs.Reactions.{opening_pool, refusal, after, answer_to};
+ghost use Rattle.pool_core.specs.Histories.{IsHistory};
+
+use crate::answer::{Answer, StepError, Stepped};
+use crate::event::Event;
+use crate::history::{History, Step, StepList};
+use crate::pool::Pool;
+use ad_value::{Copied, Memory, Text};
+use std::alloc::Global;
+use std::marker::Model;
+
+/// A pool beside its history, which leads from the pool's opening to the pool.
+#[derive(Debug, Drop)]
+pub struct Course {
+    opening: Pool,
+    steps: Vec<Step>,
+    pool: Pool,
+}
+
+impl Model for Course {
+    ghost use Rattle.std.specs.Prelude.{◌≡◌};
+    ghost use Rattle.pool_core.specs.CourseValue.{CourseValue};
+    ghost use Rattle.pool_core.specs.Reactions.{opening_pool};
+    ghost use Rattle.pool_core.specs.Histories.{LeadsTo};
+
+    ghost Value = { CourseValue };
+
+    ghost view = { λ c. record { opening = c.opening; list = c.steps.items; pool = c.pool } };
+
+    ghost invariant = { λ c. (c.opening ≡ opening_pool c.opening.name c.opening.memory) × LeadsTo c.opening c.steps.items c.pool };
+}
+
+impl Course {
+    /// A pool of a machine, to which nothing has happened.
+    pub fn open(alloc: Global, name: Text, memory: u64) -> Result<Course, Memory>
+        ensures opening { IfOk result (λ c. c.opening ≡ opening_pool name memory) }
+        ensures list { IfOk result (λ c. c.list ≡ []) }
+        ensures pool { IfOk result (λ c. c.pool ≡ opening_pool name memory) }
+    {
+        let pool = Pool::open(name, memory);
+        Ok(Course {
+            opening: pool.copy(alloc)?,
+            steps: Vec::new(alloc),
+            pool,
+        })
+    }
+
+    pub fn pool(&self) -> &Pool
+        ensures { result.now ≡ self.now.pool }
+    {
+        &self.pool
+    }
+
+    /// One event. A refused one changes nothing. Costs as much as the event, however long the history is, but that
+    /// the list of events doubles its room where it is full.
+    pub fn act(&mut self, alloc: Global, ev: Event) -> Result<Answer, StepError>
+        ensures accepted { OnOk result (refusal self.old.pool ev ≡ None) }
+        ensures answer { IfOk result (λ a. a ≡ answer_to self.old.pool ev) }
+        ensures list { OnOk result (self.new.list ≡ self.old.list ++ record { event = ev; kept = kept_of (answer_to self.old.pool ev) } ∷ []) }
+        ensures pool { OnOk result (self.new.pool ≡ after self.old.pool ev) }
+        ensures opening { self.new.opening ≡ self.old.opening }
+
+        ensures cause { IfErr result (λ e. e ≢ StepError.Memory → refusal self.old.pool ev ≡ Some e) }
+        ensures same { OnErr result (self.new ≡ self.old) }
+    {
+        if self.steps.reserve(1).is_err() {
+            return Err(StepError::Memory);
+        }
+        let Stepped { answer, kept } = self.pool.step(alloc, &ev)?;
+        self.steps.push(Step { event: ev, kept }).unwrap();
+        Ok(answer)
+    }
+
+    /// The history, and the pool that it leads to. Takes no memory.
+    pub fn finish(self) -> (History, Pool)
+        ensures history { IsHistory self.opening.name self.opening.memory result.0 result.1 }
+        ensures list { result.0.list ≡ self.list }
+        ensures pool { result.1 ≡ self.pool }
+    {
+        let Course {
+            opening,
+            steps,
+            pool,
+        } = self;
+        let history = History {
+            opening: Some(opening),
+            load: false,
+            list: StepList::from_vec(steps),
+        };
+        (history, pool)
+    }
+}

@@ -1,0 +1,16 @@
+//! A pool of one machine with one slot, for one job: what happens in it, what it answers, and its history.
+#![tactic(auto)]
+
+mod answer;
+mod course;
+mod event;
+mod history;
+mod memory_match;
+mod pool;
+
+pub use answer::{Answer, Kept, StepError, Stepped};
+pub use course::Course;
+pub use event::{End, Event};
+pub use history::{History, Step, StepList};
+pub use memory_match::MemoryMatch;
+pub use pool::{Job, Phase, Pool};
