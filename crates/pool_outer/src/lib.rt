@@ -16,7 +16,7 @@ pub use gate::{Daemon, Gate, OpenGate, Point};
 pub use limit::Which;
 pub use sink::{MemSink, Sink, SinkError, StdSink};
 pub use spawner::{
-    ChildEnd, ChildState, FailingSpawns, Launch, MemSpawner, Script, SpawnError, Spawner,
-    SureSpawner,
+    ChildEnd, ChildSpawner, ChildState, FailingSpawns, Launch, MemSpawner, Script, SpawnError,
+    Spawner, SureSpawner,
 };
 pub use store::{DiskStore, MemFile, MemStore, Store, StoreError, SureStore};

@@ -6,9 +6,11 @@ ghost use Rattle.pool_outer.specs.declared.spawner.Launch.{Launch};
 ghost use Rattle.pool_outer.specs.Cause.{HasCause};
 ghost use Rattle.pool_outer.specs.Children.{Sees, SameSightings};
 
+mod child;
 mod memory;
 
 use ad_value::{Copied, Memory, Text, TextList};
+pub use child::ChildSpawner;
 pub use memory::{ChildEnd, FailingSpawns, MemSpawner, Script, SureSpawner};
 use std::alloc::{AllocError, AllocFailed, Global};
 use thiserror::Error;
