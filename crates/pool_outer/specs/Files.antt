@@ -1,5 +1,7 @@
 -- Files by name, and what a stop may leave of them.
-use Rattle.std.specs.Prelude.{◌≡◌, ◌⊎◌, ℕ, ◌<◌, ◌≤◌, List, [], ◌++◌, length, take, drop, min, Option, Some, None, IsSome}
+use Rattle.std.specs.Prelude.{◌≡◌, ◌⊎◌, ℕ, Bool, ◌<◌, ◌≤◌, List, [], length, take, drop, min, Option, Some, None, IsSome}
+use Rattle.std.specs.List.{list_any}
+use Rattle.std.specs.Str.{bytes_eq}
 
 -- the bytes of a file; a missing one has none
 abbrev pub bytes_in : Option (List ℕ) → List ℕ
@@ -32,3 +34,7 @@ pub record Elapses (before now : ℕ) (past since : List ℕ → ℕ → List �
 -- the files hold what they held, and as much of them is solid
 abbrev pub SameFiles : (List ℕ → Option (List ℕ)) → (List ℕ → Option (List ℕ)) → (List ℕ → ℕ) → (List ℕ → ℕ) → Type 0
 SameFiles old new old_solid new_solid = (name : List ℕ) → (new name ≡ old name) × (new_solid name ≡ old_solid name)
+
+-- whether a list of names has that name
+abbrev pub is_named : List (List ℕ) → List ℕ → Bool
+is_named names name = list_any (λ known. bytes_eq known name) names

@@ -1,3 +1,6 @@
 pub mod Cause
 pub mod Files
 pub mod Children
+pub mod MemoryFiles
+pub mod MemoryClock
+pub mod MemoryChildren

@@ -1,5 +1,11 @@
 ghost use Rattle.std.specs.Prelude.{◌≤◌, ℕ};
 
+mod memory;
+mod system;
+
+pub use memory::MemClock;
+pub use system::SystemClock;
+
 /// The last reading: 9999-12-30 22:00:00 UTC, the end of the civil calendar in every zone.
 pub const LAST_READING: u64 = 253_402_207_200;
 

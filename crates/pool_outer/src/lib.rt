@@ -3,15 +3,20 @@
 #![tactic(auto)]
 
 mod clock;
+mod failing;
+mod faults;
 mod gate;
 mod limit;
 mod sink;
 mod spawner;
 mod store;
 
-pub use clock::{Clock, LAST_READING};
-pub use gate::{Daemon, Gate, Point};
+pub use clock::{Clock, LAST_READING, MemClock, SystemClock};
+pub use gate::{Daemon, Gate, OpenGate, Point};
 pub use limit::Which;
-pub use sink::{Sink, SinkError};
-pub use spawner::{ChildState, Launch, SpawnError, Spawner};
-pub use store::{Store, StoreError};
+pub use sink::{MemSink, Sink, SinkError, StdSink};
+pub use spawner::{
+    ChildEnd, ChildSpawner, ChildState, FailingSpawns, Launch, MemSpawner, Script, SpawnError,
+    Spawner, SureSpawner,
+};
+pub use store::{DiskStore, MemFile, MemStore, Store, StoreError, SureStore};

@@ -2,6 +2,11 @@ ghost use Rattle.std.specs.Prelude.{◌≡◌, ◌≤◌, ◌<◌, ◌++◌, ℕ
 ghost use Rattle.pool_outer.specs.declared.sink.SinkError.TheVariants.{Failed};
 ghost use Rattle.pool_outer.specs.Cause.{HasCause};
 
+mod memory;
+mod standard;
+
+pub use memory::MemSink;
+pub use standard::StdSink;
 use thiserror::Error;
 
 #[derive(Clone, Copy, Debug, PartialEq, Eq, Error)]

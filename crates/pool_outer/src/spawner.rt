@@ -1,13 +1,18 @@
 ghost use Rattle.std.specs.Prelude.{◌≡◌, ◌≢◌, ◌<◌, ◌≤◌, ◌+◌, ◌++◌, ◌∷◌, [], ℕ, List, Bool, true, false, Err, length, IfOk, OnOk, OnErr, MatchResult, is_ok, if◌then◌else◌};
-ghost use Rattle.pool_outer.specs.declared.spawner.SpawnError.TheVariants.{Failed};
+ghost use Rattle.pool_outer.specs.declared.spawner.SpawnError.TheVariants.{Failed, Memory as NoMemory};
 ghost use Rattle.pool_outer.specs.declared.spawner.ChildState.{ChildState};
 ghost use Rattle.pool_outer.specs.declared.spawner.ChildState.TheVariants.{Running};
 ghost use Rattle.pool_outer.specs.declared.spawner.Launch.{Launch};
 ghost use Rattle.pool_outer.specs.Cause.{HasCause};
 ghost use Rattle.pool_outer.specs.Children.{Sees, SameSightings};
 
+mod child;
+mod memory;
+
 use ad_value::{Copied, Memory, Text, TextList};
-use std::alloc::Global;
+pub use child::ChildSpawner;
+pub use memory::{ChildEnd, FailingSpawns, MemSpawner, Script, SureSpawner};
+use std::alloc::{AllocError, AllocFailed, Global};
 use thiserror::Error;
 
 /// What a child is started with. An empty folder is the program's own, and an empty file name is `/dev/null`.
@@ -109,4 +114,28 @@ pub trait Spawner: Drop {
 
     /// A child that isn't there yet was neither seen to end nor killed.
     ghost unborn: { (s : Self) (k : ℕ) → tells s ≡ true → count s ≤ k → (seen s k ≡ Running) × (killed s k ≡ false) };
+}
+
+impl From<Memory> for SpawnError {
+    ghost from_gives = { λ _ error. error ≡ NoMemory };
+
+    fn from(_: Memory) -> SpawnError {
+        SpawnError::Memory
+    }
+}
+
+impl From<AllocError> for SpawnError {
+    ghost from_gives = { λ _ error. error ≡ NoMemory };
+
+    fn from(_: AllocError) -> SpawnError {
+        SpawnError::Memory
+    }
+}
+
+impl<T: Drop> From<AllocFailed<T>> for SpawnError {
+    ghost from_gives = { λ _ error. error ≡ NoMemory };
+
+    fn from(_: AllocFailed<T>) -> SpawnError {
+        SpawnError::Memory
+    }
 }

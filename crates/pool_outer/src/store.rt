@@ -1,9 +1,15 @@
 ghost use Rattle.std.specs.Prelude.{◌≡◌, ◌≤◌, ℕ, List, Bool, true, false, Option, Some, None, length, IfOk, OnOk, IsErrOf, IsSome};
 ghost use Rattle.std.specs.Option.{option_map};
-ghost use Rattle.pool_outer.specs.declared.store.StoreError.TheVariants.{Failed};
+ghost use Rattle.pool_outer.specs.declared.store.StoreError.TheVariants.{Failed, Memory as NoMemory};
 ghost use Rattle.pool_outer.specs.Cause.{HasCause};
 ghost use Rattle.pool_outer.specs.Files.{ReadAt, Leaves, Elapses, SameFiles};
 
+mod disk;
+mod memory;
+
+use ad_value::Memory;
+pub use disk::DiskStore;
+pub use memory::{MemFile, MemStore, SureStore};
 use std::alloc::Global;
 use thiserror::Error;
 
@@ -83,4 +89,12 @@ pub trait Store: Drop {
 
     /// Since now there is no other moment.
     ghost only_now: { (s : Self) (n : List ℕ) (c : List ℕ) → tells s ≡ true → left_since s n (moment s) c → Leaves (file s) (solid s) n c };
+}
+
+impl From<Memory> for StoreError {
+    ghost from_gives = { λ _ error. error ≡ NoMemory };
+
+    fn from(_: Memory) -> StoreError {
+        StoreError::Memory
+    }
 }

@@ -1,0 +1,26 @@
+ghost use Rattle.std.specs.Prelude.{◌≡◌, ◌+◌, ◌-◌, ◌^◌, ◌↔◌, IsTrue, Contains, min};
+
+/// Calls of which some fail, by their numbers from 0.
+#[derive(Debug, Drop)]
+pub struct FailingCalls {
+    next: u64,
+    fails: Vec<u64>,
+}
+
+impl FailingCalls {
+    pub fn new(fails: Vec<u64>) -> FailingCalls
+        ensures { result ≡ record { next = 0; fails = fails } }
+    {
+        FailingCalls { next: 0, fails }
+    }
+
+    /// Counts a call, and says whether it fails.
+    pub fn fails_now(&mut self) -> bool
+        ensures fails { IsTrue result ↔ Contains self.old.fails.items self.old.next }
+        ensures next { self.new ≡ record self.old { next = min (self.old.next + 1) (2 ^ 64 - 1) } }
+    {
+        let call = self.next;
+        self.next = call.saturating_add(1);
+        self.fails.contains(&call)
+    }
+}
