@@ -1,3 +1,4 @@
+pub mod UserLogs
 pub mod FormLines
 pub mod Amounts
 pub mod Lines

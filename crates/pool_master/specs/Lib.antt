@@ -2,3 +2,4 @@ pub mod Status
 pub mod Words
 pub mod Files
 pub mod Forms
+pub mod UserLog

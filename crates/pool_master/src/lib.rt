@@ -5,6 +5,7 @@ mod files;
 mod form;
 mod output;
 mod status;
+mod user_log;
 mod words;
 
 pub use status::{Kind, Status};

@@ -1,0 +1,5 @@
+use Rattle.std.proofs.Common.{rules}
+use Rattle.pool_master.proofs.user_log.start_lines.Goals as goal
+
+pub returns : goal.returns
+returns c = rw c.if-never.false (rw (c.as_str.ensures.value, c.in_ok-said.ensures.ok) at c.entry.ensures)
