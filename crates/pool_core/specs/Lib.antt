@@ -3,3 +3,10 @@ pub mod Answers
 pub mod Reactions
 pub mod Histories
 pub mod CourseValue
+pub mod Numbers
+pub mod Ads
+pub mod AbstractPool
+pub mod AbstractStep
+pub mod Safe
+pub mod View
+pub mod Moving

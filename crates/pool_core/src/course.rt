@@ -1,7 +1,8 @@
 ghost use Rattle.std.specs.Prelude.{◌≡◌, ◌≢◌, [], ◌∷◌, ◌++◌, None, Some, IfOk, IfErr, OnErr, OnOk};
 ghost use Rattle.pool_core.specs.Answers.{kept_of};
 ghost use Rattle.pool_core.specs.Reactions.{opening_pool, refusal, after, answer_to};
-ghost use Rattle.pool_core.specs.Histories.{IsHistory};
+ghost use Rattle.pool_core.specs.Histories.{IsHistory, Shows};
+ghost use Rattle.pool_core.specs.Moving.{EachMoves};
 
 use crate::answer::{Answer, StepError, Stepped};
 use crate::event::Event;
@@ -76,6 +77,8 @@ impl Course {
     /// The history, and the pool that it leads to. Takes no memory.
     pub fn finish(self) -> (History, Pool)
         ensures history { IsHistory self.opening.name self.opening.memory result.0 result.1 }
+        ensures safe { EachMoves self.opening self.list }
+        ensures shows { Shows self.opening.name self.opening.memory self.list result.1 }
         ensures list { result.0.list ≡ self.list }
         ensures pool { result.1 ≡ self.pool }
     {

@@ -5,6 +5,7 @@ mod answer;
 mod course;
 mod event;
 mod history;
+mod laws;
 mod memory_match;
 mod pool;
 
@@ -12,5 +13,6 @@ pub use answer::{Answer, Kept, StepError, Stepped};
 pub use course::Course;
 pub use event::{End, Event};
 pub use history::{History, Step, StepList};
+pub use laws::{histories_are_safe, histories_are_shown, histories_grow};
 pub use memory_match::MemoryMatch;
 pub use pool::{Job, Phase, Pool};
