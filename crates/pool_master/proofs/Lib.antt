@@ -1,3 +1,6 @@
+pub mod Playing
+pub mod Pools
+pub mod RunLists
 pub mod UserLogs
 pub mod FormLines
 pub mod Amounts

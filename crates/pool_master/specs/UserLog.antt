@@ -10,6 +10,7 @@ use Rattle.pool_core.specs.declared.event.Event.TheVariants.{Submit, Start, Ende
 use Rattle.pool_core.specs.declared.history.History.{History}
 use Rattle.pool_core.specs.declared.history.Step.{Step}
 use Rattle.pool_core.specs.declared.pool.Pool.{Pool}
+use Rattle.pool_master.specs.Runs.{is_not_started}
 
 -- `YYYY-MM-DD HH:MM:SS`, the civil date and time of the reading in UTC
 pub record IsStamp (reading : ℕ) (text : List ℕ) : Type 0 where
@@ -38,15 +39,10 @@ signalled_text signal = codes "Job terminated.\n\t(0) Abnormal termination (sign
 abbrev pub held_text : List ℕ
 held_text = codes "Job was held.\n\tFailed to start\n...\n"
 
-abbrev pub ends_not_started : End → Bool
-ends_not_started (Exited code) = false
-ends_not_started (Signalled signal) = false
-ends_not_started NotStarted = true
-
 abbrev pub next_end : Event → Bool → Bool
 next_end (Submit program memory reading) later = later
 next_end (Start judged reading) later = later
-next_end (Ended end reading) later = ends_not_started end
+next_end (Ended end reading) later = is_not_started end
 next_end (Close reading) later = later
 
 -- the run that is on before these events ends as one that didn't start

@@ -4,6 +4,7 @@
 mod files;
 mod form;
 mod output;
+mod play;
 mod status;
 mod user_log;
 mod words;

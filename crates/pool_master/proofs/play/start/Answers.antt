@@ -1,0 +1,4 @@
+use Rattle.pool_master.proofs.play.start.Goals as goal
+
+pub act-requires : goal.act-requires
+act-requires g c = c.requires c.read-reading.result
