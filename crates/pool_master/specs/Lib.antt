@@ -2,6 +2,8 @@ pub mod Status
 pub mod Words
 pub mod Files
 pub mod Forms
+pub mod Input
 pub mod Runs
 pub mod Follows
 pub mod UserLog
+pub mod Run

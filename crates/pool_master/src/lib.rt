@@ -3,10 +3,13 @@
 
 mod files;
 mod form;
+mod load;
 mod output;
 mod play;
+mod run;
 mod status;
 mod user_log;
 mod words;
 
+pub use run::{Ran, run_pool};
 pub use status::{Kind, Status};

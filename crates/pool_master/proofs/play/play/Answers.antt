@@ -24,7 +24,7 @@ returns-in_err-submit-clause-follows g c = rw c.in_err-submit.ensures.err
 pub returns-in_err-serve-clause-follows : goal.returns-in_err-serve-clause-follows
 returns-in_err-serve-clause-follows g c =
     c.in_err-serve.ensures.follows _ (submit_follows _ _ _ _ _ _ _ _ _ _ _ c.in_ok-submit.ensures.ok
-      (follows_none _ _ _ _ _ _ _ (λ told. g.met.P.Spawner.counted c.args.spawner.now told ∙ c.requires.idle) (λ told k. (g.met.P.Spawner.unborn c.args.spawner.now k told (let none = c.requires.idle in omega arith)).1) c.requires.empty))
+    (follows_none _ _ _ _ _ _ _ (λ told. g.met.P.Spawner.counted c.args.spawner.now told ∙ c.requires.idle) (λ told k. (g.met.P.Spawner.unborn c.args.spawner.now k told (let none = c.requires.idle in omega arith)).1) c.requires.empty))
 
 pub returns-in_err-serve-clause-partly : goal.returns-in_err-serve-clause-partly
 returns-in_err-serve-clause-partly g c = inr (c.in_err-serve.ensures.submits ∙ submit_submits _ _ _ _ _ c.in_ok-submit.ensures.ok c.requires.empty)
@@ -32,7 +32,7 @@ returns-in_err-serve-clause-partly g c = inr (c.in_err-serve.ensures.submits ∙
 pub returns-in_err-close-clause-follows : goal.returns-in_err-close-clause-follows
 returns-in_err-close-clause-follows g c = rw c.in_err-close.ensures.err
     (c.in_ok-serve.ensures.follows _ (submit_follows _ _ _ _ _ _ _ _ _ _ _ c.in_ok-submit.ensures.ok
-      (follows_none _ _ _ _ _ _ _ (λ told. g.met.P.Spawner.counted c.args.spawner.now told ∙ c.requires.idle) (λ told k. (g.met.P.Spawner.unborn c.args.spawner.now k told (let none = c.requires.idle in omega arith)).1) c.requires.empty)))
+    (follows_none _ _ _ _ _ _ _ (λ told. g.met.P.Spawner.counted c.args.spawner.now told ∙ c.requires.idle) (λ told k. (g.met.P.Spawner.unborn c.args.spawner.now k told (let none = c.requires.idle in omega arith)).1) c.requires.empty)))
 
 pub returns-in_err-close-clause-partly : goal.returns-in_err-close-clause-partly
 returns-in_err-close-clause-partly g c = inr (ap (λ (v : CourseValue). submits v.list) c.in_err-close.ensures.err ∙ (c.in_ok-serve.ensures.submits ∙ submit_submits _ _ _ _ _ c.in_ok-submit.ensures.ok c.requires.empty))
@@ -41,7 +41,7 @@ pub returns-clause-follows : goal.returns-clause-follows
 returns-clause-follows g c =
     close_follows _ _ _ _ _ _ _ _ _ c.in_ok-close.ensures.ok
     (c.in_ok-serve.ensures.follows _ (submit_follows _ _ _ _ _ _ _ _ _ _ _ c.in_ok-submit.ensures.ok
-      (follows_none _ _ _ _ _ _ _ (λ told. g.met.P.Spawner.counted c.args.spawner.now told ∙ c.requires.idle) (λ told k. (g.met.P.Spawner.unborn c.args.spawner.now k told (let none = c.requires.idle in omega arith)).1) c.requires.empty)))
+    (follows_none _ _ _ _ _ _ _ (λ told. g.met.P.Spawner.counted c.args.spawner.now told ∙ c.requires.idle) (λ told k. (g.met.P.Spawner.unborn c.args.spawner.now k told (let none = c.requires.idle in omega arith)).1) c.requires.empty)))
 
 pub returns-clause-between : goal.returns-clause-between
 returns-clause-between g c = close_between _ _ _ _ _ c.in_ok-close.ensures.ok c.in_ok-serve.ensures.between
