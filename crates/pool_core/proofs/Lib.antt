@@ -1,3 +1,4 @@
 pub mod Growing
 pub mod Moving
 pub mod Showing
+pub mod Steps

@@ -1,8 +1,7 @@
 -- Each event of a pool makes its abstract steps, and each pool of a history is safe.
-use Rattle.std.proofs.Common.{◌≡◌, ◌≢◌, ℕ, ◌<◌, ◌≤◌, ◌⊎◌, inl, inr, List, [], ◌∷◌, ◌++◌, Option, Some, None, Bool, true, false, ◌&&◌, ◌==◌, max, refl, sym, ◌∙◌, ap, subst, arith, if◌then◌else◌, IfSome, IsSome, IsSomeAnd}
+use Rattle.std.proofs.Common.{◌≡◌, ◌≢◌, ℕ, ◌<◌, ◌≤◌, ◌⊎◌, inl, inr, List, [], ◌∷◌, ◌++◌, Option, Some, None, Bool, true, false, ◌&&◌, ◌==◌, max, refl, sym, ap, subst, arith, if◌then◌else◌, IsSomeAnd}
 use Rattle.std.specs.Prelude.{nat_lt}
 use Rattle.std.proofs.lemmas.Bool.{eqb-true, ltb-true, ltb-false}
-use Rattle.std.proofs.lemmas.Bool.Decides.{nat_tests}
 use Rattle.pool_core.specs.declared.event.End.{End}
 use Rattle.pool_core.specs.declared.event.End.TheVariants.{Exited, Signalled, NotStarted}
 use Rattle.pool_core.specs.declared.event.Event.{Event}
@@ -14,57 +13,16 @@ use Rattle.pool_core.specs.declared.pool.Job.{Job}
 use Rattle.pool_core.specs.declared.pool.Phase.{Phase}
 use Rattle.pool_core.specs.declared.pool.Phase.TheVariants as phase
 use Rattle.pool_core.specs.declared.pool.Pool.{Pool}
-use Rattle.pool_core.specs.AbstractPool.{State, Idle, Held, Under, Done, EndedBy, Entry, Run, Said, AbstractPool, IsIn, SameMembers, SameView, Mark, IsSpentBy, IsUsed, KeepsSpent, set}
-use Rattle.pool_core.specs.AbstractStep.{AbstractStep, Time, Queue, Acknowledge, Grant, Start, Stop, Free, Finish, Allowed, made, MayStart, Takes}
+use Rattle.pool_core.specs.AbstractPool.{Held, EndedBy, Entry, Run, Said, AbstractPool, IsIn, SameMembers, SameView, Mark, IsSpentBy, IsUsed, KeepsSpent, set}
+use Rattle.pool_core.specs.AbstractStep.{AbstractStep, Time, Queue, Acknowledge, Grant, Start, Stop, Free, Finish, Takes}
 use Rattle.pool_core.specs.Events.{reading_of}
 use Rattle.pool_core.specs.Histories.{LeadsTo}
-use Rattle.pool_core.specs.Moving.{time_to, own_steps, steps_of, EachMoves}
+use Rattle.pool_core.specs.Moving.{time_to, steps_of, EachMoves}
 use Rattle.pool_core.specs.Numbers.{JobId, RunNo, same_job, same_slot}
-use Rattle.pool_core.specs.Reactions.{refusal, open_refusal, is_idle, is_judged, after, job_after, phase_after}
-use Rattle.pool_core.specs.Safe.{Safe, IsMatched, IsAccounted}
+use Rattle.pool_core.specs.Reactions.{opening_pool, refusal, open_refusal, after, job_after, phase_after}
+use Rattle.pool_core.specs.Safe.{Safe, RunsLeased}
+use Rattle.pool_core.proofs.Steps.{both_true, takes_safe}
 use Rattle.pool_core.specs.View.{the_job, the_slot, the_claim, the_run, run_of, marks_after, state_of, how_of, said_with, acked_in, runs_in, said_in, view_of}
-
--- what holds of a job's phase on a slot of that memory: a run is by a match of the two numbers, and what is finished was started
-abbrev pub PhaseFits : ℕ → ℕ → Phase → Type 0
-PhaseFits memory request phase.Idle = Unit {0}
-PhaseFits memory request (phase.Running judged until) = (judged.request ≡ request) × (judged.slot ≡ memory)
-PhaseFits memory request phase.Held = Unit {0}
-PhaseFits memory request (phase.Finished end) = end ≢ NotStarted
-
-abbrev pub JobFits : ℕ → Option Job → Type 0
-JobFits memory None = Unit {0}
-JobFits memory (Some j) = PhaseFits memory j.memory j.phase
-
-both_true : (a b : Bool) → (a && b) ≡ true → (a ≡ true) × (b ≡ true)
-both_true true true h = (refl, refl)
-both_true true false h = cc
-both_true false b h = cc
-
-same_job-true : (a b : JobId) → same_job a b ≡ true → a ≡ b
-same_job-true a b h =
-    let both = both_true (a.cluster == b.cluster) (a.proc == b.proc) h in
-    let cluster : a.cluster ≡ b.cluster = eqb-true a.cluster b.cluster both.0 in
-    let proc : a.proc ≡ b.proc = eqb-true a.proc b.proc both.1 in
-    let with_cluster : ℕ → JobId = λ n. record { cluster = n; proc = a.proc } in
-    let with_proc : ℕ → JobId = λ n. record { cluster = b.cluster; proc = n } in
-    ap with_cluster cluster ∙ ap with_proc proc
-
--- what holds of the one job holds of each
-of_each : (P : JobId → Entry → Type 0) (e : Entry) → P the_job e → (job : JobId) → IfSome (if same_job job the_job then Some e else None) (P job)
-of_each P e here job = by_test (same_job job the_job) refl
-  where
-  by_test : (b : Bool) → same_job job the_job ≡ b → IfSome (if b then Some e else None) (P job)
-  by_test true is = subst (λ q. P q e) (sym (same_job-true job the_job is)) here
-  by_test false is = tt
-
-only : {A : Type 0} (x r s : A) → IsIn r (x ∷ []) → IsIn s (x ∷ []) → r ≡ s
-only x r s (inl e) (inl f) = e ∙ sym f
-only x r s (inl e) (inr f) = absurd f
-only x r s (inr e) f = absurd e
-
-for_one : {A : Type 0} (P : A → Type 0) (x : A) → P x → (r : A) → IsIn r (x ∷ []) → P r
-for_one P x here r (inl e) = subst P (sym e) here
-for_one P x here r (inr e) = absurd e
 
 abbrev job : List ℕ → ℕ → Phase → Option Job
 job program request ph = Some (record { program = program; memory = request; phase = ph })
@@ -75,75 +33,19 @@ pool name memory latest job closed = record { name = name; memory = memory; late
 abbrev entry : ℕ → Phase → Entry
 entry request ph = record { core = request; state = state_of ph }
 
--- an acknowledged job is there
-kept : (request : ℕ) (ph : Phase) (q : JobId) → IsIn q (the_job ∷ []) → IsSome (set same_job (λ j. None) the_job (Some (entry request ph)) q)
-kept request ph = for_one (λ q. IsSome (set same_job (λ j. None) the_job (Some (entry request ph)) q)) the_job refl
-
-safe_job : (name : List ℕ) (memory latest : ℕ) (program : List ℕ) (request : ℕ) (ph : Phase) (closed : Bool) → PhaseFits memory request ph → Safe (view_of (pool name memory latest (job program request ph) closed))
-safe_job name memory latest program request phase.Idle closed fits =
-    let v = view_of (pool name memory latest (job program request phase.Idle) closed) in
-    record {
-      matched = λ r there. absurd there;
-      one_run_per_slot = λ r s there. absurd there;
-      one_lease_per_job = λ r s there. absurd there;
-      acknowledged_kept = kept request phase.Idle;
-      endings_said = of_each (λ q e. IsAccounted v q e.state) (entry request phase.Idle) tt;
-    }
-safe_job name memory latest program request (phase.Running judged until) closed fits =
-    let v = view_of (pool name memory latest (job program request (phase.Running judged until)) closed) in
-    let matched : IsMatched v (run_of judged until) = record { match = judged.fits; slot_ad = ap Some (sym fits.1); job_ad = sym fits.0 } in
-    record {
-      matched = for_one (IsMatched v) (run_of judged until) matched;
-      one_run_per_slot = λ r s at bt same. only (run_of judged until) r s at bt;
-      one_lease_per_job = λ r s at bt same later lasting. only (run_of judged until) r s at bt;
-      acknowledged_kept = kept request (phase.Running judged until);
-      endings_said = of_each (λ q e. IsAccounted v q e.state) (entry request (phase.Running judged until)) tt;
-    }
-safe_job name memory latest program request phase.Held closed fits =
-    let v = view_of (pool name memory latest (job program request phase.Held) closed) in
-    record {
-      matched = λ r there. absurd there;
-      one_run_per_slot = λ r s there. absurd there;
-      one_lease_per_job = λ r s there. absurd there;
-      acknowledged_kept = kept request phase.Held;
-      endings_said = of_each (λ q e. IsAccounted v q e.state) (entry request phase.Held) tt;
-    }
-safe_job name memory latest program request (phase.Finished end) closed fits =
-    let v = view_of (pool name memory latest (job program request (phase.Finished end)) closed) in
-    record {
-      matched = λ r there. absurd there;
-      one_run_per_slot = λ r s there. absurd there;
-      one_lease_per_job = λ r s there. absurd there;
-      acknowledged_kept = kept request (phase.Finished end);
-      endings_said = of_each (λ q e. IsAccounted v q e.state) (entry request (phase.Finished end)) (inl refl);
-    }
-
-safe_at : (name : List ℕ) (memory latest : ℕ) (at : Option Job) (closed : Bool) → JobFits memory at → Safe (view_of (pool name memory latest at closed))
-safe_at name memory latest None closed fits = record {
-  matched = λ r there. absurd there;
-  one_run_per_slot = λ r s there. absurd there;
-  one_lease_per_job = λ r s there. absurd there;
-  acknowledged_kept = λ q there. absurd there;
-  endings_said = λ q. tt;
-}
-safe_at name memory latest (Some j) closed fits = safe_job name memory latest j.program j.memory j.phase closed fits
-
-pub safe : (p : Pool) → JobFits p.memory p.job → Safe (view_of p)
-safe p fits = safe_at p.name p.memory p.latest p.job p.closed fits
-
 -- A step of time is left out where the reading isn't later.
 timed : (v w : AbstractPool) (reading : ℕ) (ks : List AbstractStep) → Takes (record v { moment = max v.moment reading }) ks w → Takes v (time_to v.moment reading ++ ks) w
 timed v w reading ks rest = by_test (nat_lt v.moment reading) refl
   where
-  by_test : (b : Bool) → nat_lt v.moment reading ≡ b → Takes v ((if b then Time reading ∷ [] else []) ++ ks) w
-  by_test true is =
-      let later : v.moment < reading = ltb-true v.moment reading is in
-      let greatest : max v.moment reading ≡ reading = omega arith in
-      (omega arith, subst (λ m. Takes (record v { moment = m }) ks w) greatest rest)
-  by_test false is =
-      let no_later : reading ≤ v.moment = ltb-false v.moment reading is in
-      let greatest : max v.moment reading ≡ v.moment = omega arith in
-      subst (λ m. Takes (record v { moment = m }) ks w) greatest rest
+    by_test : (b : Bool) → nat_lt v.moment reading ≡ b → Takes v ((if b then Time reading ∷ [] else []) ++ ks) w
+    by_test true is =
+        let later : v.moment < reading = ltb-true v.moment reading is in
+        let greatest : max v.moment reading ≡ reading = omega arith in
+        (omega arith, subst (λ m. Takes (record v { moment = m }) ks w) greatest rest)
+    by_test false is =
+        let no_later : reading ≤ v.moment = ltb-false v.moment reading is in
+        let greatest : max v.moment reading ≡ v.moment = omega arith in
+        subst (λ m. Takes (record v { moment = m }) ks w) greatest rest
 
 same_members : {A : Type 0} (xs : List A) → SameMembers xs xs
 same_members xs x = (λ there. there, λ there. there)
@@ -152,9 +54,9 @@ same_members xs x = (λ there. there, λ there. there)
 set_twice : (a b : Option Entry) (q : JobId) → set same_job (λ j. None) the_job b q ≡ set same_job (set same_job (λ j. None) the_job a) the_job b q
 set_twice a b q = by_test (same_job q the_job)
   where
-  by_test : (t : Bool) → (if t then b else None) ≡ (if t then b else (if t then a else None))
-  by_test true = refl
-  by_test false = refl
+    by_test : (t : Bool) → (if t then b else None) ≡ (if t then b else (if t then a else None))
+    by_test true = refl
+    by_test false = refl
 
 passes : (b : Bool) → (if b then None else Some error.AdMoved) ≡ None → b ≡ true
 passes true h = refl
@@ -170,8 +72,11 @@ view memory latest at = view_of (pool [] memory latest at false)
 
 submitted : (memory latest : ℕ) (program : List ℕ) (request reading : ℕ) → Takes (view memory latest None) (steps_of (pool [] memory latest None false) (event.Submit program request reading)) (view memory (max latest reading) (job program request phase.Idle))
 submitted memory latest program request reading =
-    timed (view memory latest None) (view memory (max latest reading) (job program request phase.Idle)) reading (Queue the_job request ∷ Acknowledge the_job ∷ [])
-        (refl, (refl, record {
+    timed (view memory latest None) (view memory (max latest reading) (job program request phase.Idle)) reading (Queue the_job request ∷ Acknowledge the_job ∷ []) (
+      refl,
+      (
+        refl,
+        record {
           moment = refl;
           next = refl;
           jobs = λ q. refl;
@@ -181,7 +86,9 @@ submitted memory latest program request reading =
           marks = λ q. refl;
           said = same_members [];
           slots = λ q. refl;
-        }))
+        },
+      ),
+    )
 
 unspent : IsSpentBy (marks_after 0) the_run → ⊥
 unspent (inl h) = omega arith
@@ -198,29 +105,36 @@ SpentAt run o = IsSomeAnd o (λ k. (run.claim.boot < k.boot) ⊎ (((run.claim.bo
 more_used : (m n : ℕ) → m ≤ n → KeepsSpent (marks_after m) (marks_after n)
 more_used m n more run = by_test (same_slot run.claim.slot the_slot)
   where
-  by_mark : SpentAt run (Some (mark m)) → SpentAt run (Some (mark n))
-  by_mark (inl h) = inl h
-  by_mark (inr (inl h)) = inr (inl h)
-  by_mark (inr (inr h)) = inr (inr (h.0, omega (arith, h.1)))
+    by_mark : SpentAt run (Some (mark m)) → SpentAt run (Some (mark n))
+    by_mark (inl h) = inl h
+    by_mark (inr (inl h)) = inr (inl h)
+    by_mark (inr (inr h)) = inr (inr (h.0, omega (arith, h.1)))
 
-  by_test : (t : Bool) → SpentAt run (if t then Some (mark m) else None) → SpentAt run (if t then Some (mark n) else None)
-  by_test true h = by_mark h
-  by_test false h = h
+    by_test : (t : Bool) → SpentAt run (if t then Some (mark m) else None) → SpentAt run (if t then Some (mark n) else None)
+    by_test true h = by_mark h
+    by_test false h = h
 
 started : (memory latest : ℕ) (program : List ℕ) (request : ℕ) (judged : MemoryMatch) (reading : ℕ) → judged.request ≡ request → judged.slot ≡ memory
     → Takes (view memory latest (job program request phase.Idle)) (steps_of (pool [] memory latest (job program request phase.Idle) false) (event.Start judged reading)) (view memory (max latest reading) (job program request (phase.Running judged reading)))
 started memory latest program request judged reading asks has =
-    timed (view memory latest (job program request phase.Idle)) (view memory (max latest reading) (job program request (phase.Running judged reading))) reading (Grant the_job the_run reading ∷ Start (run_of judged reading) (marks_after 1) ∷ [])
-        ((refl, refl), ((record {
-          unspent = unspent;
-          new_number = λ s there. absurd there;
-          claimed = refl;
-          free = λ s there. absurd there;
-          leased = inl (omega arith);
-          slot_ad = ap Some (sym has);
-          job_ad = sym asks;
-          match = judged.fits;
-        }, inr (inr (refl, omega arith)), more_used 0 1 (omega arith)), record {
+    timed (view memory latest (job program request phase.Idle)) (view memory (max latest reading) (job program request (phase.Running judged reading))) reading (Grant the_job the_run reading ∷ Start (run_of judged reading) (marks_after 1) ∷ []) (
+      (refl, refl),
+      (
+        (
+          record {
+            unspent = unspent;
+            new_number = λ s there. absurd there;
+            claimed = refl;
+            free = λ s there. absurd there;
+            leased = inl (omega arith);
+            slot_ad = ap Some (sym has);
+            job_ad = sym asks;
+            match = judged.fits;
+          },
+          inr (inr (refl, omega arith)),
+          more_used 0 1 (omega arith),
+        ),
+        record {
           moment = refl;
           next = refl;
           jobs = set_twice (Some (entry request phase.Idle)) (Some (entry request (phase.Running judged reading)));
@@ -230,7 +144,9 @@ started memory latest program request judged reading asks has =
           marks = λ q. refl;
           said = same_members [];
           slots = λ q. refl;
-        }))
+        },
+      ),
+    )
 
 -- the view after a run, with an entry of the job and what was said
 abbrev view_after : ℕ → ℕ → (JobId → Option Entry) → List Said → AbstractPool
@@ -271,95 +187,90 @@ ended memory latest program request judged until (Exited code) reading =
     let running = entry request (phase.Running judged until) in
     let finished = entry request (phase.Finished (Exited code)) in
     timed (view memory latest (job program request (phase.Running judged until))) (view memory (max latest reading) (job program request (phase.Finished (Exited code)))) reading
-        (Stop (run_of judged until) (Some (how_of (Exited code))) ∷ Finish the_job (EndedBy the_run (how_of (Exited code))) ∷ [])
-        (inl refl, (((until, refl), (inr (inr (refl, omega arith)), the_end), inl refl, tt), rewritten memory (max latest reading) (Some running) (Some finished) (said_with (how_of (Exited code)))))
+    (Stop (run_of judged until) (Some (how_of (Exited code))) ∷ Finish the_job (EndedBy the_run (how_of (Exited code))) ∷ [])
+    (inl refl, (((until, refl), (inr (inr (refl, omega arith)), the_end), inl refl, tt), rewritten memory (max latest reading) (Some running) (Some finished) (said_with (how_of (Exited code)))))
 ended memory latest program request judged until (Signalled signal) reading =
     let running = entry request (phase.Running judged until) in
     let finished = entry request (phase.Finished (Signalled signal)) in
     timed (view memory latest (job program request (phase.Running judged until))) (view memory (max latest reading) (job program request (phase.Finished (Signalled signal)))) reading
-        (Stop (run_of judged until) (Some (how_of (Signalled signal))) ∷ Finish the_job (EndedBy the_run (how_of (Signalled signal))) ∷ [])
-        (inl refl, (((until, refl), (inr (inr (refl, omega arith)), the_end), inl refl, tt), rewritten memory (max latest reading) (Some running) (Some finished) (said_with (how_of (Signalled signal)))))
+    (Stop (run_of judged until) (Some (how_of (Signalled signal))) ∷ Finish the_job (EndedBy the_run (how_of (Signalled signal))) ∷ [])
+    (inl refl, (((until, refl), (inr (inr (refl, omega arith)), the_end), inl refl, tt), rewritten memory (max latest reading) (Some running) (Some finished) (said_with (how_of (Signalled signal)))))
 ended memory latest program request judged until NotStarted reading =
     let running = entry request (phase.Running judged until) in
     timed (view memory latest (job program request (phase.Running judged until))) (view memory (max latest reading) (job program request phase.Held)) reading
-        (Stop (run_of judged until) (Some (how_of NotStarted)) ∷ Free the_job Held ∷ [])
-        (inl refl, ((inr refl, inl (inr (inr (refl, omega arith)), the_end)), rewritten memory (max latest reading) (Some running) (Some (entry request phase.Held)) (said_with (how_of NotStarted))))
+    (Stop (run_of judged until) (Some (how_of NotStarted)) ∷ Free the_job Held ∷ [])
+    (inl refl, ((inr refl, inl (inr (inr (refl, omega arith)), the_end)), rewritten memory (max latest reading) (Some running) (Some (entry request phase.Held)) (said_with (how_of NotStarted))))
 
 closing : (memory latest : ℕ) (at : Option Job) (reading : ℕ) → Takes (view memory latest at) (steps_of (pool [] memory latest at false) (event.Close reading)) (view memory (max latest reading) at)
 closing memory latest at reading =
     timed (view memory latest at) (view memory (max latest reading) at) reading []
-        (record {
-          moment = refl;
-          next = refl;
-          jobs = λ q. refl;
-          acked = same_members (acked_in at);
-          ordered = same_members [];
-          runs = same_members (runs_in at);
-          marks = λ q. refl;
-          said = same_members (said_in at);
-          slots = λ q. refl;
-        })
+    (record {
+      moment = refl;
+      next = refl;
+      jobs = λ q. refl;
+      acked = same_members (acked_in at);
+      ordered = same_members [];
+      runs = same_members (runs_in at);
+      marks = λ q. refl;
+      said = same_members (said_in at);
+      slots = λ q. refl;
+    })
 
 -- an accepted event of a pool that is open makes its steps
-moves_at : (memory latest : ℕ) (at : Option Job) (e : Event) → JobFits memory at → open_refusal (pool [] memory latest at false) e ≡ None
+moves_at : (memory latest : ℕ) (at : Option Job) (e : Event) → open_refusal (pool [] memory latest at false) e ≡ None
     → Takes (view memory latest at) (steps_of (pool [] memory latest at false) e) (view memory (max latest (reading_of e)) (job_after at e))
-moves_at memory latest None (event.Submit program request reading) fits ok = submitted memory latest program request reading
-moves_at memory latest None (event.Start judged reading) fits ok = cc
-moves_at memory latest None (event.Ended end reading) fits ok = cc
-moves_at memory latest None (event.Close reading) fits ok = cc
-moves_at memory latest (Some j) (event.Submit program request reading) fits ok = cc
-moves_at memory latest (Some j) (event.Start judged reading) fits ok = by_phase j.program j.memory j.phase ok
+moves_at memory latest None (event.Submit program request reading) ok = submitted memory latest program request reading
+moves_at memory latest None (event.Start judged reading) ok = cc
+moves_at memory latest None (event.Ended end reading) ok = cc
+moves_at memory latest None (event.Close reading) ok = cc
+moves_at memory latest (Some j) (event.Submit program request reading) ok = cc
+moves_at memory latest (Some j) (event.Start judged reading) ok = by_phase j.program j.memory j.phase ok
   where
-  by_phase : (program : List ℕ) (request : ℕ) (ph : Phase) → open_refusal (pool [] memory latest (job program request ph) false) (event.Start judged reading) ≡ None
-      → Takes (view memory latest (job program request ph)) (steps_of (pool [] memory latest (job program request ph) false) (event.Start judged reading)) (view memory (max latest reading) (job program request (phase.Running judged reading)))
-  by_phase program request phase.Idle ok =
-      let both = judged_both request memory judged ok in
-      started memory latest program request judged reading both.0 both.1
-  by_phase program request (phase.Running old until) ok = cc
-  by_phase program request phase.Held ok = cc
-  by_phase program request (phase.Finished how) ok = cc
-moves_at memory latest (Some j) (event.Ended end reading) fits ok = by_phase j.program j.memory j.phase ok
+    by_phase : (program : List ℕ) (request : ℕ) (ph : Phase) → open_refusal (pool [] memory latest (job program request ph) false) (event.Start judged reading) ≡ None
+        → Takes (view memory latest (job program request ph)) (steps_of (pool [] memory latest (job program request ph) false) (event.Start judged reading)) (view memory (max latest reading) (job program request (phase.Running judged reading)))
+    by_phase program request phase.Idle ok =
+        let both = judged_both request memory judged ok in
+        started memory latest program request judged reading both.0 both.1
+    by_phase program request (phase.Running old until) ok = cc
+    by_phase program request phase.Held ok = cc
+    by_phase program request (phase.Finished how) ok = cc
+moves_at memory latest (Some j) (event.Ended end reading) ok = by_phase j.program j.memory j.phase ok
   where
-  by_phase : (program : List ℕ) (request : ℕ) (ph : Phase) → open_refusal (pool [] memory latest (job program request ph) false) (event.Ended end reading) ≡ None
-      → Takes (view memory latest (job program request ph)) (steps_of (pool [] memory latest (job program request ph) false) (event.Ended end reading)) (view memory (max latest reading) (job program request (phase_after end)))
-  by_phase program request phase.Idle ok = cc
-  by_phase program request (phase.Running judged until) ok = ended memory latest program request judged until end reading
-  by_phase program request phase.Held ok = cc
-  by_phase program request (phase.Finished how) ok = cc
-moves_at memory latest (Some j) (event.Close reading) fits ok = closing memory latest (Some j) reading
+    by_phase : (program : List ℕ) (request : ℕ) (ph : Phase) → open_refusal (pool [] memory latest (job program request ph) false) (event.Ended end reading) ≡ None
+        → Takes (view memory latest (job program request ph)) (steps_of (pool [] memory latest (job program request ph) false) (event.Ended end reading)) (view memory (max latest reading) (job program request (phase_after end)))
+    by_phase program request phase.Idle ok = cc
+    by_phase program request (phase.Running judged until) ok = ended memory latest program request judged until end reading
+    by_phase program request phase.Held ok = cc
+    by_phase program request (phase.Finished how) ok = cc
+moves_at memory latest (Some j) (event.Close reading) ok = closing memory latest (Some j) reading
 
 -- a pool that accepts an event is open
 pub opened : (p : Pool) (e : Event) → refusal p e ≡ None → open_refusal p e ≡ None
 opened p e ok = by_test p.closed ok
   where
-  by_test : (b : Bool) → (if b then Some error.Closed else open_refusal p e) ≡ None → open_refusal p e ≡ None
-  by_test true ok = cc
-  by_test false ok = ok
+    by_test : (b : Bool) → (if b then Some error.Closed else open_refusal p e) ≡ None → open_refusal p e ≡ None
+    by_test true ok = cc
+    by_test false ok = ok
 
-pub moves : (p : Pool) (e : Event) → JobFits p.memory p.job → refusal p e ≡ None → Takes (view_of p) (steps_of p e) (view_of (after p e))
-moves p e fits ok = moves_at p.memory p.latest p.job e fits (opened p e ok)
+pub moves : (p : Pool) (e : Event) → refusal p e ≡ None → Takes (view_of p) (steps_of p e) (view_of (after p e))
+moves p e ok = moves_at p.memory p.latest p.job e (opened p e ok)
 
--- an accepted event keeps what holds of the job
-fits_at : (memory : ℕ) (at : Option Job) (e : Event) → JobFits memory at → open_refusal (pool [] memory 0 at false) e ≡ None → JobFits memory (job_after at e)
-fits_at memory None (event.Submit program request reading) fits ok = tt
-fits_at memory None (event.Start judged reading) fits ok = tt
-fits_at memory None (event.Ended end reading) fits ok = tt
-fits_at memory None (event.Close reading) fits ok = tt
-fits_at memory (Some j) (event.Submit program request reading) fits ok = tt
-fits_at memory (Some j) (event.Start judged reading) fits ok = by_phase j.phase ok
-  where
-  by_phase : (ph : Phase) → open_refusal (pool [] memory 0 (Some (record { program = j.program; memory = j.memory; phase = ph })) false) (event.Start judged reading) ≡ None → (judged.request ≡ j.memory) × (judged.slot ≡ memory)
-  by_phase phase.Idle ok = judged_both j.memory memory judged ok
-  by_phase (phase.Running old until) ok = cc
-  by_phase phase.Held ok = cc
-  by_phase (phase.Finished how) ok = cc
-fits_at memory (Some j) (event.Ended (Exited code) reading) fits ok = λ no. cc
-fits_at memory (Some j) (event.Ended (Signalled signal) reading) fits ok = λ no. cc
-fits_at memory (Some j) (event.Ended NotStarted reading) fits ok = tt
-fits_at memory (Some j) (event.Close reading) fits ok = fits
+-- an opening pool has no job and no run
+opening_safe : (name : List ℕ) (memory : ℕ) → Safe (view_of (opening_pool name memory))
+opening_safe name memory = record {
+  matched = λ r there. absurd there;
+  one_run_per_slot = λ r s there. absurd there;
+  one_lease_per_job = λ r s there. absurd there;
+  acknowledged_kept = λ q there. absurd there;
+  endings_said = λ q. tt;
+}
 
-pub each_moves : (p : Pool) (ss : List Step) (q : Pool) → JobFits p.memory p.job → LeadsTo p ss q → EachMoves p ss
-each_moves p [] q fits leads = safe p fits
-each_moves p (s ∷ ss) q fits leads =
-    let ok = leads.0.accepted in
-    (safe p fits, moves p s.event fits ok, each_moves (after p s.event) ss q (fits_at p.memory p.job s.event fits (opened p s.event ok)) leads.1)
+each_moves : (p : Pool) (ss : List Step) (q : Pool) → Safe (view_of p) → RunsLeased (view_of p) → LeadsTo p ss q → EachMoves p ss
+each_moves p [] q safe leased leads = safe
+each_moves p (s ∷ ss) q safe leased leads =
+    let takes = moves p s.event leads.0.accepted in
+    let next = takes_safe (view_of p) (steps_of p s.event) (view_of (after p s.event)) takes safe leased in
+    (safe, takes, each_moves (after p s.event) ss q next.0 next.1 leads.1)
+
+pub history_moves : (name : List ℕ) (memory : ℕ) (list : List Step) (p : Pool) → LeadsTo (opening_pool name memory) list p → EachMoves (opening_pool name memory) list
+history_moves name memory list p leads = each_moves (opening_pool name memory) list p (opening_safe name memory) (λ r there. absurd there) leads

@@ -1,24 +1,20 @@
 -- A pool shows what its history says.
-use Rattle.std.proofs.Common.{◌≡◌, ℕ, List, [], ◌∷◌, ◌++◌, Option, Some, None, Bool, true, false, max, refl, sym, ◌∙◌, ap, append_assoc, if◌then◌else◌, map}
+use Rattle.std.proofs.Common.{◌≡◌, ℕ, List, [], ◌∷◌, ◌++◌, Option, Some, None, false, max, refl, sym, ◌∙◌, ap, append_assoc}
 use Rattle.std.specs.Prelude.{fold, option_to_list}
 use Rattle.std.proofs.lemmas.List.{append-nil}
 use Rattle.std.specs.List.{filter_map, cons_option}
-use Rattle.pool_outer.specs.declared.spawner.Launch.{Launch}
-use Rattle.pool_core.specs.declared.answer.StepError.TheVariants as error
 use Rattle.pool_core.specs.declared.event.End.{End}
 use Rattle.pool_core.specs.declared.event.End.TheVariants.{Exited, Signalled, NotStarted}
 use Rattle.pool_core.specs.declared.event.Event.{Event}
 use Rattle.pool_core.specs.declared.event.Event.TheVariants.{Submit, Start, Ended, Close}
 use Rattle.pool_core.specs.declared.history.Step.{Step}
-use Rattle.pool_core.specs.declared.memory_match.MemoryMatch.{MemoryMatch}
 use Rattle.pool_core.specs.declared.pool.Job.{Job}
 use Rattle.pool_core.specs.declared.pool.Phase.{Phase}
 use Rattle.pool_core.specs.declared.pool.Phase.TheVariants.{Idle, Running, Held, Finished}
 use Rattle.pool_core.specs.declared.pool.Pool.{Pool}
 use Rattle.pool_core.specs.Answers.{kept_of}
-use Rattle.pool_core.specs.Events.{reading_of}
 use Rattle.pool_core.specs.Histories.{LeadsTo, Shows, submit_in, launch_in, end_in, readings, submits, launches, ends, submits_of, launches_of, ends_of}
-use Rattle.pool_core.specs.Reactions.{opening_pool, refusal, open_refusal, answer_to, after, job_after}
+use Rattle.pool_core.specs.Reactions.{opening_pool, open_refusal, answer_to, after, job_after}
 use Rattle.pool_core.proofs.Moving.{opened}
 
 abbrev pool : ℕ → Option Job → Pool
@@ -41,27 +37,27 @@ adds memory None (Close reading) ok = cc
 adds memory (Some j) (Submit program request reading) ok = cc
 adds memory (Some j) (Start judged reading) ok = by_phase j.program j.memory j.phase ok
   where
-  by_phase : (program : List ℕ) (request : ℕ) (ph : Phase) → open_refusal (pool memory (job program request ph)) (Start judged reading) ≡ None → Adds memory (job program request ph) (Start judged reading)
-  by_phase program request Idle ok = record { submitted = refl; launched = refl; ended = refl }
-  by_phase program request (Running old until) ok = cc
-  by_phase program request Held ok = cc
-  by_phase program request (Finished how) ok = cc
+    by_phase : (program : List ℕ) (request : ℕ) (ph : Phase) → open_refusal (pool memory (job program request ph)) (Start judged reading) ≡ None → Adds memory (job program request ph) (Start judged reading)
+    by_phase program request Idle ok = record { submitted = refl; launched = refl; ended = refl }
+    by_phase program request (Running old until) ok = cc
+    by_phase program request Held ok = cc
+    by_phase program request (Finished how) ok = cc
 adds memory (Some j) (Ended end reading) ok = by_phase j.program j.memory j.phase end ok
   where
-  by_phase : (program : List ℕ) (request : ℕ) (ph : Phase) (end : End) → open_refusal (pool memory (job program request ph)) (Ended end reading) ≡ None → Adds memory (job program request ph) (Ended end reading)
-  by_phase program request Idle end ok = cc
-  by_phase program request (Running old until) (Exited code) ok = record { submitted = refl; launched = refl; ended = refl }
-  by_phase program request (Running old until) (Signalled signal) ok = record { submitted = refl; launched = refl; ended = refl }
-  by_phase program request (Running old until) NotStarted ok = record { submitted = refl; launched = refl; ended = refl }
-  by_phase program request Held end ok = cc
-  by_phase program request (Finished how) end ok = cc
+    by_phase : (program : List ℕ) (request : ℕ) (ph : Phase) (end : End) → open_refusal (pool memory (job program request ph)) (Ended end reading) ≡ None → Adds memory (job program request ph) (Ended end reading)
+    by_phase program request Idle end ok = cc
+    by_phase program request (Running old until) (Exited code) ok = record { submitted = refl; launched = refl; ended = refl }
+    by_phase program request (Running old until) (Signalled signal) ok = record { submitted = refl; launched = refl; ended = refl }
+    by_phase program request (Running old until) NotStarted ok = record { submitted = refl; launched = refl; ended = refl }
+    by_phase program request Held end ok = cc
+    by_phase program request (Finished how) end ok = cc
 adds memory (Some j) (Close reading) ok = by_phase j.program j.memory j.phase
   where
-  by_phase : (program : List ℕ) (request : ℕ) (ph : Phase) → Adds memory (job program request ph) (Close reading)
-  by_phase program request Idle = record { submitted = refl; launched = refl; ended = refl }
-  by_phase program request (Running old until) = record { submitted = refl; launched = refl; ended = refl }
-  by_phase program request Held = record { submitted = refl; launched = refl; ended = refl }
-  by_phase program request (Finished how) = record { submitted = refl; launched = refl; ended = refl }
+    by_phase : (program : List ℕ) (request : ℕ) (ph : Phase) → Adds memory (job program request ph) (Close reading)
+    by_phase program request Idle = record { submitted = refl; launched = refl; ended = refl }
+    by_phase program request (Running old until) = record { submitted = refl; launched = refl; ended = refl }
+    by_phase program request Held = record { submitted = refl; launched = refl; ended = refl }
+    by_phase program request (Finished how) = record { submitted = refl; launched = refl; ended = refl }
 
 -- what q shows is what p shows and then what the history between them says
 record Goes (p : Pool) (list : List Step) (q : Pool) : Type 0 where
@@ -76,9 +72,9 @@ record Goes (p : Pool) (list : List Step) (q : Pool) : Type 0 where
 first : {A : Type 0} {B : Type 0} (f : A → Option B) (x : A) (xs : List A) (all shown after : List B) → all ≡ after ++ filter_map f xs → after ≡ shown ++ option_to_list (f x) → all ≡ shown ++ filter_map f (x ∷ xs)
 first {B = B} f x xs all shown after rest here = rest ∙ (ap (λ l. l ++ filter_map f xs) here ∙ by_option (f x))
   where
-  by_option : (o : Option B) → (shown ++ option_to_list o) ++ filter_map f xs ≡ shown ++ cons_option o (filter_map f xs)
-  by_option None = ap (λ l. l ++ filter_map f xs) (append-nil shown)
-  by_option (Some y) = append_assoc shown (y ∷ []) (filter_map f xs)
+    by_option : (o : Option B) → (shown ++ option_to_list o) ++ filter_map f xs ≡ shown ++ cons_option o (filter_map f xs)
+    by_option None = ap (λ l. l ++ filter_map f xs) (append-nil shown)
+    by_option (Some y) = append_assoc shown (y ∷ []) (filter_map f xs)
 
 goes : (p : Pool) (list : List Step) (q : Pool) → LeadsTo p list q → Goes p list q
 goes p [] q leads = record {

@@ -1,9 +1,9 @@
 -- The abstract pool: what a pool promises of its jobs and runs, without messages, boots, logs or pending work.
-use Rattle.std.specs.Prelude.{◌≡◌, ◌≢◌, ◌⊎◌, ◌↔◌, ℕ, ℤ, ◌<◌, ◌≤◌, List, [], ◌∷◌, Option, Some, None, IsSomeAnd, Bool, if◌then◌else◌}
+use Rattle.std.specs.Prelude.{◌≡◌, ◌≢◌, ◌⊎◌, ◌↔◌, ℕ, ℤ, ◌<◌, ◌≤◌, List, [], ◌∷◌, Option, IsSomeAnd, Bool, if◌then◌else◌}
 use Rattle.pool_core.specs.Ads.{Core, SlotAd, Judged}
 use Rattle.pool_core.specs.Numbers.{JobId, SlotId, ClaimNo, RunNo}
 
--- how a run ended (HTCondor manual, Job Event Log Codes: 005 terminated, 007 not started, 004 evicted, 009 stopped)
+-- how a run ended (HTCondor manual, Job Event Log Codes: 005, job terminated; 004, job evicted from machine)
 pub data How : Type 0 where
   Exited : (code : ℤ) → How
   Signalled : (signal : ℤ) → How
@@ -59,11 +59,11 @@ Marks = SlotId → Option Mark
 
 -- The sets are lists, of which only the members count.
 pub record AbstractPool : Type 0 where
-  pub moment : ℕ                       -- the greatest reading
-  pub next : ℕ                         -- the number of the next run
-  pub jobs : JobId → Option Entry      -- those of the queue, and those that have left it
-  pub acked : List JobId               -- those that were acknowledged
-  pub ordered : List JobId             -- those that were ordered to be removed
+  pub moment : ℕ  -- the greatest reading
+  pub next : ℕ  -- the number of the next run
+  pub jobs : JobId → Option Entry  -- those of the queue, and those that have left it
+  pub acked : List JobId  -- those that were acknowledged
+  pub ordered : List JobId  -- those that were ordered to be removed
   pub runs : List Run
   pub marks : Marks
   pub said : List Said

@@ -1,7 +1,7 @@
 -- What may happen in an abstract pool, step by step.
-use Rattle.std.specs.Prelude.{◌≡◌, ◌≢◌, ◌⊎◌, ℕ, ◌+◌, ◌<◌, ◌≤◌, List, [], ◌∷◌, Option, Some, None, IsSome, IsSomeAnd, option_map, Bool, not, max, map, filter, if◌then◌else◌}
-use Rattle.pool_core.specs.Ads.{Core, SlotAd, IsMatch, core_of, job_of, slot_of}
-use Rattle.pool_core.specs.Numbers.{JobId, SlotId, RunNo, same_job, same_run}
+use Rattle.std.specs.Prelude.{◌≡◌, ◌≢◌, ◌⊎◌, ℕ, ◌+◌, ◌≤◌, List, [], ◌∷◌, Option, Some, None, IsSome, IsSomeAnd, option_map, not, max, map, filter, if◌then◌else◌}
+use Rattle.pool_core.specs.Ads.{Core, IsMatch, core_of, job_of, slot_of}
+use Rattle.pool_core.specs.Numbers.{JobId, RunNo, same_job, same_run}
 use Rattle.pool_core.specs.AbstractPool.{How, Exited, Signalled, NotStarted, Evicted, Stopped, Outcome, EndedBy, Removed, State, Idle, Held, Under, Left, Done, Entry, Run, Said, Marks, AbstractPool, IsIn, set, SameView, IsSpent, IsSpentBy, IsDead, KeepsSpent, Stands, HasCore}
 
 pub data AbstractStep : Type 0 where

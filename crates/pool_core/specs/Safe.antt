@@ -1,8 +1,9 @@
 -- When an abstract pool is safe.
-use Rattle.std.specs.Prelude.{◌≡◌, ◌⊎◌, ℕ, ◌<◌, Option, Some, None, IsSome, IfSome}
+use Rattle.std.specs.Prelude.{◌≡◌, ◌⊎◌, ◌<◌, Some, IsSome, IfSome}
 use Rattle.pool_core.specs.Ads.{IsMatch, core_of, job_of, slot_of}
-use Rattle.pool_core.specs.Numbers.{JobId, RunNo}
-use Rattle.pool_core.specs.AbstractPool.{How, Outcome, EndedBy, Removed, State, Idle, Held, Under, Left, Done, Run, AbstractPool, IsIn, HasCore}
+use Rattle.pool_core.specs.Numbers.{JobId}
+use Rattle.pool_core.specs.AbstractStep.{IsLeased}
+use Rattle.pool_core.specs.AbstractPool.{EndedBy, Removed, State, Idle, Held, Under, Left, Done, Run, AbstractPool, IsIn, IsSpent, HasCore}
 
 -- the run was started by a match of its slot's ad and its job's
 pub record IsMatched (v : AbstractPool) (r : Run) : Type 0 where
@@ -30,3 +31,11 @@ pub record Safe (v : AbstractPool) : Type 0 where
   pub acknowledged_kept : (job : JobId) → IsIn job v.acked → IsSome (v.jobs job)
   -- a job leaves the queue only by an end that was said, or by an order
   pub endings_said : (job : JobId) → IfSome (v.jobs job) (λ e. IsAccounted v job e.state)
+
+-- each run's lease is past, or ends by the lease of its job, which is under that run
+abbrev pub RunsLeased : AbstractPool → Type 0
+RunsLeased v = (r : Run) → IsIn r v.runs → IsLeased v r.job r.run r.until
+
+-- no run that is there may start again
+abbrev pub RunsSpent : AbstractPool → Type 0
+RunsSpent v = (r : Run) → IsIn r v.runs → IsSpent v r.run

@@ -9,7 +9,7 @@ use Rattle.pool_core.specs.declared.pool.Phase.{Phase}
 use Rattle.pool_core.specs.declared.pool.Phase.TheVariants as phase
 use Rattle.pool_core.specs.declared.pool.Pool.{Pool}
 use Rattle.pool_core.specs.Numbers.{JobId, SlotId, ClaimNo, RunNo, same_job, same_slot}
-use Rattle.pool_core.specs.AbstractPool.{How, Exited, Signalled, NotStarted, EndedBy, State, Idle, Held, Under, Done, Entry, Run, Said, Mark, Marks, HeldClaim, AbstractPool, set}
+use Rattle.pool_core.specs.AbstractPool.{How, Exited, Signalled, NotStarted, EndedBy, State, Idle, Held, Under, Done, Entry, Run, Said, Marks, AbstractPool, set}
 
 abbrev pub the_job : JobId
 the_job = record { cluster = 1; proc = 0 }

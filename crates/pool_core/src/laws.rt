@@ -1,26 +1,59 @@
 //! What holds of every history, and of every abstract pool.
 
-ghost use Rattle.std.specs.Prelude.{◌≡◌, ℕ, List, [], ◌∷◌, ◌++◌};
+ghost use Rattle.std.specs.Prelude.{◌≡◌, ℕ, List, [], ◌∷◌, ◌++◌, None};
 ghost use Rattle.pool_core.specs.declared.history.Step.{Step};
 ghost use Rattle.pool_core.specs.declared.pool.Pool.{Pool};
 ghost use Rattle.pool_core.specs.Reactions.{opening_pool};
 ghost use Rattle.pool_core.specs.Histories.{Reacts, LeadsTo, Shows};
-ghost use Rattle.pool_core.specs.Moving.{EachMoves};
+ghost use Rattle.pool_core.specs.Moving.{steps_of, EachMoves};
+ghost use Rattle.pool_core.specs.declared.event.Event.{Event};
+ghost use Rattle.pool_core.specs.Reactions.{refusal, after};
+ghost use Rattle.pool_core.specs.View.{view_of};
+ghost use Rattle.pool_core.specs.Ads.{Core};
+ghost use Rattle.pool_core.specs.Numbers.{JobId, RunNo};
+ghost use Rattle.pool_core.specs.AbstractPool.{AbstractPool, Outcome, Done, IsDead, HasCore, Stands};
+ghost use Rattle.pool_core.specs.AbstractStep.{AbstractStep, Allowed, made, Takes, Moves};
+ghost use Rattle.pool_core.specs.Safe.{Safe, RunsLeased, RunsSpent};
 
 /// A history goes on by one more accepted event.
 pub fn histories_grow()
     ensures { (p q r : Pool) (list : List Step) (s : Step) → LeadsTo p list q → Reacts q s.event s.kept r → LeadsTo p (list ++ s ∷ []) r }
-{
-}
+{}
+
+/// An event that a pool accepts makes the abstract steps named for it, whatever the pool.
+pub fn events_make_steps()
+    ensures { (p : Pool) (ev : Event) → refusal p ev ≡ None → Takes (view_of p) (steps_of p ev) (view_of (after p ev)) }
+{}
 
 /// Whatever the events and their readings, each moves the pool by steps of the abstract pool, and every pool is safe.
 pub fn histories_are_safe()
     ensures { (name : List ℕ) (memory : ℕ) (list : List Step) (p : Pool) → LeadsTo (opening_pool name memory) list p → EachMoves (opening_pool name memory) list }
-{
-}
+{}
 
 /// A pool shows what its history says.
 pub fn histories_are_shown()
     ensures { (name : List ℕ) (memory : ℕ) (list : List Step) (p : Pool) → LeadsTo (opening_pool name memory) list p → Shows name memory list p }
-{
-}
+{}
+
+/// Every step that may be made keeps an abstract pool safe, and its runs within the leases of their jobs.
+pub fn steps_keep_safe()
+    ensures safe { (v : AbstractPool) (k : AbstractStep) → Safe v → RunsLeased v → Allowed v k → Safe (made v k) }
+    ensures leased { (v : AbstractPool) (k : AbstractStep) → Safe v → RunsLeased v → Allowed v k → RunsLeased (made v k) }
+{}
+
+/// So does every list of such steps, up to another abstract pool of the same parts.
+pub fn moves_keep_safe()
+    ensures { (v w : AbstractPool) → Safe v → RunsLeased v → Moves v w → Safe w × RunsLeased w }
+{}
+
+/// No step takes a job away, changes its core or brings back one that has left the queue.
+pub fn steps_keep_jobs()
+    ensures core { (v : AbstractPool) (k : AbstractStep) (job : JobId) (core : Core) → Allowed v k → HasCore v job core → HasCore (made v k) job core }
+    ensures done { (v : AbstractPool) (k : AbstractStep) (job : JobId) (outcome : Outcome) → Allowed v k → Stands v job (Done outcome) → Stands (made v k) job (Done outcome) }
+{}
+
+/// Every run that is there is spent, and no dead run comes back.
+pub fn steps_keep_dead()
+    ensures spent { (v : AbstractPool) (k : AbstractStep) → RunsSpent v → Allowed v k → RunsSpent (made v k) }
+    ensures dead { (v : AbstractPool) (k : AbstractStep) (run : RunNo) → Allowed v k → IsDead v run → IsDead (made v k) run }
+{}

@@ -13,6 +13,12 @@ pub use answer::{Answer, Kept, StepError, Stepped};
 pub use course::Course;
 pub use event::{End, Event};
 pub use history::{History, Step, StepList};
-pub use laws::{histories_are_safe, histories_are_shown, histories_grow};
+pub use laws::{
+    events_make_steps, histories_are_safe, histories_are_shown, histories_grow, moves_keep_safe,
+    steps_keep_dead, steps_keep_jobs, steps_keep_safe,
+};
 pub use memory_match::MemoryMatch;
 pub use pool::{Job, Phase, Pool};
+
+#[cfg(test)]
+mod tests;

@@ -1,0 +1,8 @@
+use Rattle.pool_core.proofs.Steps.{step_core, step_done}
+use Rattle.pool_core.proofs.laws.steps_keep_jobs.Goals as goal
+
+pub returns-clause-core : goal.returns-clause-core
+returns-clause-core c = step_core
+
+pub returns-clause-done : goal.returns-clause-done
+returns-clause-done c = step_done
