@@ -18,3 +18,6 @@ pub trait Clock {
         ensures allowed { allows self.now result }
         ensures in_range { result ≤ LAST_READING };
 }
+
+#[cfg(test)]
+mod tests;

@@ -139,3 +139,6 @@ impl<T: Drop> From<AllocFailed<T>> for SpawnError {
         SpawnError::Memory
     }
 }
+
+#[cfg(test)]
+mod tests;

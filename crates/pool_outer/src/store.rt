@@ -98,3 +98,6 @@ impl From<Memory> for StoreError {
         StoreError::Memory
     }
 }
+
+#[cfg(test)]
+mod tests;
