@@ -9,6 +9,7 @@ pub fn write_all<K: Sink>(out: &mut K, bytes: &[u8]) -> Result<(), SinkError>
     ensures part { K.tells out.old ≡ true → (n : ℕ) × (K.written out.new ≡ K.written out.old ++ take n bytes.now) }
     ensures told { K.tells out.new ≡ K.tells out.old }
     ensures later { K.faults out.old ≤ K.faults out.new }
+    ensures quiet { OnOk result (K.faults out.new ≡ K.faults out.old) }
     ensures rose { OnErr result (Rose (K.faults out.old) (K.faults out.new)) }
 {
     let mut done = 0;

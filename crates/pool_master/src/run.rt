@@ -145,3 +145,6 @@ fn is_left(job: &Option<Job>) -> bool
         Some(job) => !matches!(job.phase, Phase::Finished { .. }),
     }
 }
+
+#[cfg(test)]
+mod tests;

@@ -1,4 +1,4 @@
-use Rattle.std.proofs.Common.{◌≡◌, ◌∙◌, take, length, true, arith, rules}
+use Rattle.std.proofs.Common.{◌≡◌, ◌∙◌, length, true, refl, arith, rules}
 use Rattle.pool_outer.specs.Files.{bytes_in}
 use Rattle.pool_master.proofs.Pieces.{read_more, no_more}
 use Rattle.pool_master.proofs.files.read_file.Goals as goal
@@ -7,7 +7,6 @@ pub pieces-preserved : goal.pieces-preserved
 pieces-preserved g c =
     let inv = c.pieces.invariant in
     let read = c.in_ok-count.ensures in
-    let at : g.D.Store.tells c.pieces.store ≡ true → _ = read.read in
     let front = λ (tells : g.D.Store.tells c.args.store.now ≡ true). read_more (g.D.Store.file c.args.store.now c.args.name.now) (g.D.Store.file c.pieces.store c.args.name.now) c.pieces.bytes.items c.read_at.new.into c.pieces.piece c.extend_from_slice.new.self.items c.len-in-pieces.result c.in_ok-count.count (inv.same tells c.args.name.now).0 (search rules) (read.read (inv.told ∙ tells)) (omega (arith, read.count)) (inv.front tells) c.in_ok-extend_from_slice.ensures.items in
     record {
       size = inv.size;
@@ -17,5 +16,5 @@ pieces-preserved g c =
       same = λ tells n. let now = read.same (inv.told ∙ tells) n in let before = inv.same tells n in (now.0 ∙ before.0, now.1 ∙ before.1);
       known = read.known;
       told = read.told ∙ inv.told;
-      later = omega (arith, read.cause.later);
+      quiet = read.cause.quiet refl ∙ inv.quiet;
     }

@@ -13,7 +13,7 @@ invariant-pieces g l = record {
   same : g.D.Store.tells l.fn.store ≡ true → SameFiles (g.D.Store.file l.fn.store) (g.D.Store.file l.store) (g.D.Store.solid l.fn.store) (g.D.Store.solid l.store);
   known : g.D.Store.known l.store l.name ≡ true;
   told : g.D.Store.tells l.store ≡ g.D.Store.tells l.fn.store;
-  later : g.D.Store.faults l.fn.store ≤ g.D.Store.faults l.store;
+  quiet : g.D.Store.faults l.store ≡ g.D.Store.faults l.fn.store;
 }
 
 abbrev pub decreases-pieces : goal.decreases-pieces

@@ -1,4 +1,4 @@
-use Rattle.std.proofs.Common.{◌∙◌, arith}
+use Rattle.std.proofs.Common.{◌∙◌, refl}
 use Rattle.pool_master.proofs.Pieces.{written_more, fits_more}
 use Rattle.pool_master.proofs.output.write_all.Goals as goal
 
@@ -10,5 +10,5 @@ writes-preserved g c =
       fits = fits_more c.args.bytes.now c.writes.done c.in_ok-done.field-0 inv.fits n.count;
       written = λ tells. written_more _ _ _ c.args.bytes.now c.writes.done c.in_ok-done.field-0 (inv.written tells) (n.taken (inv.told ∙ tells));
       told = n.told ∙ inv.told;
-      later = omega (arith, n.cause.later);
+      quiet = n.cause.quiet refl ∙ inv.quiet;
     }

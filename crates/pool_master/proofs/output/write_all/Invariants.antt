@@ -7,7 +7,7 @@ invariant-writes g l = record {
   fits : l.done ≤ length l.bytes;
   written : g.K.Sink.tells l.fn.out ≡ true → g.K.Sink.written l.out ≡ g.K.Sink.written l.fn.out ++ take l.done l.bytes;
   told : g.K.Sink.tells l.out ≡ g.K.Sink.tells l.fn.out;
-  later : g.K.Sink.faults l.fn.out ≤ g.K.Sink.faults l.out;
+  quiet : g.K.Sink.faults l.out ≡ g.K.Sink.faults l.fn.out;
 }
 
 abbrev pub decreases-writes : goal.decreases-writes
