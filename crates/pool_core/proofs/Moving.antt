@@ -13,7 +13,7 @@ use Rattle.pool_core.specs.declared.pool.Job.{Job}
 use Rattle.pool_core.specs.declared.pool.Phase.{Phase}
 use Rattle.pool_core.specs.declared.pool.Phase.TheVariants as phase
 use Rattle.pool_core.specs.declared.pool.Pool.{Pool}
-use Rattle.pool_core.specs.AbstractPool.{Held, EndedBy, Entry, Run, Said, AbstractPool, IsIn, SameMembers, SameView, Mark, IsSpentBy, IsUsed, KeepsSpent, set}
+use Rattle.pool_core.specs.AbstractPool.{Held, EndedBy, Entry, Run, Said, AbstractPool, IsIn, SameMembers, SameView, SlotMark, IsSpentBy, IsUsed, KeepsSpent, set}
 use Rattle.pool_core.specs.AbstractStep.{AbstractStep, Time, Queue, Acknowledge, Grant, Start, Stop, Free, Finish, Takes}
 use Rattle.pool_core.specs.Events.{reading_of}
 use Rattle.pool_core.specs.Histories.{LeadsTo}
@@ -95,10 +95,10 @@ unspent (inl h) = omega arith
 unspent (inr (inl h)) = omega (arith, h.1)
 unspent (inr (inr h)) = omega (arith, h.1)
 
-abbrev mark : ℕ → Mark
+abbrev mark : ℕ → SlotMark
 mark last = record { boot = 0; ended = 0; held = Some (record { claim = the_claim; last = last }) }
 
-abbrev SpentAt : RunNo → Option Mark → Type 0
+abbrev SpentAt : RunNo → Option SlotMark → Type 0
 SpentAt run o = IsSomeAnd o (λ k. (run.claim.boot < k.boot) ⊎ (((run.claim.boot ≡ k.boot) × (run.claim.seq ≤ k.ended)) ⊎ IsUsed k.held run))
 
 -- the slot's mark loses no spent run as it uses numbers
@@ -245,6 +245,14 @@ moves_at memory latest (Some j) (event.Ended end reading) ok = by_phase j.progra
 moves_at memory latest (Some j) (event.Close reading) ok = closing memory latest (Some j) reading
 
 -- a pool that accepts an event is open
+pub open_before : (p : Pool) (e : Event) → refusal p e ≡ None → p.closed ≡ false
+open_before p e ok = by_test p.closed ok
+  where
+    by_test : (b : Bool) → (if b then Some error.Closed else open_refusal p e) ≡ None → b ≡ false
+    by_test true ok = cc
+    by_test false ok = refl
+
+-- and refuses it for no other cause
 pub opened : (p : Pool) (e : Event) → refusal p e ≡ None → open_refusal p e ≡ None
 opened p e ok = by_test p.closed ok
   where

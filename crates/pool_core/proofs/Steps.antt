@@ -304,7 +304,7 @@ step_alone v (Hold job) ok alone r s = alone r s
 step_alone v (Release job) ok alone r s = alone r s
 step_alone v (Lengthen job end) ok alone r s = alone r s
 
-step_slots : (v : AbstractPool) (k : AbstractStep) (slot : SlotId) → (made v k).slots slot ≡ v.slots slot
+pub step_slots : (v : AbstractPool) (k : AbstractStep) (slot : SlotId) → (made v k).slots slot ≡ v.slots slot
 step_slots v (Time moment) slot = refl
 step_slots v (Queue job core) slot = refl
 step_slots v (Acknowledge job) slot = refl
@@ -580,3 +580,20 @@ step_dead v k run ok dead = (step_spent v k ok run dead.0, λ r there same. by_s
     by_source : (r : Run) → r.run ≡ run → ComesOf v (made v k).marks r.run → ⊥
     by_source r same (inl (s, old, its)) = dead.1 s old (sym its ∙ same)
     by_source r same (inr new) = new.0 (subst (IsSpent v) (sym same) dead.0)
+
+-- what was acknowledged stays so
+pub step_acked : (v : AbstractPool) (k : AbstractStep) (q : JobId) → IsIn q v.acked → IsIn q (made v k).acked
+step_acked v (Time moment) q there = there
+step_acked v (Queue job core) q there = there
+step_acked v (Acknowledge job) q there = inr there
+step_acked v (Order job) q there = there
+step_acked v (Grant job run end) q there = there
+step_acked v (Start new marks) q there = there
+step_acked v (Mark marks) q there = there
+step_acked v (Extend run until) q there = there
+step_acked v (Stop run how) q there = there
+step_acked v (Free job state) q there = there
+step_acked v (Finish job outcome) q there = there
+step_acked v (Hold job) q there = there
+step_acked v (Release job) q there = there
+step_acked v (Lengthen job end) q there = there

@@ -49,13 +49,13 @@ pub record HeldClaim : Type 0 where
   pub last : ℕ
 
 -- what a slot remembers of its claims: its machine's boot, the greatest seq of one that has ended in it, and the held one
-pub record Mark : Type 0 where
+pub record SlotMark : Type 0 where
   pub boot : ℕ
   pub ended : ℕ
   pub held : Option HeldClaim
 
 abbrev pub Marks : Type 0
-Marks = SlotId → Option Mark
+Marks = SlotId → Option SlotMark
 
 -- The sets are lists, of which only the members count.
 pub record AbstractPool : Type 0 where
