@@ -1,4 +1,4 @@
--- The abstract pool: what a pool promises of its jobs and runs, without messages, boots, logs or pending work.
+-- The abstract pool: what a pool promises of its jobs and runs, without messages, logs or pending work.
 use Rattle.std.specs.Prelude.{◌≡◌, ◌≢◌, ◌⊎◌, ◌↔◌, ℕ, ℤ, ◌<◌, ◌≤◌, List, [], ◌∷◌, Option, IsSomeAnd, Bool, if◌then◌else◌}
 use Rattle.pool_core.specs.Ads.{Core, SlotAd, Judged}
 use Rattle.pool_core.specs.Numbers.{JobId, SlotId, ClaimNo, RunNo}
