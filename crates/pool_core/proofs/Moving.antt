@@ -13,13 +13,13 @@ use Rattle.pool_core.specs.declared.pool.Job.{Job}
 use Rattle.pool_core.specs.declared.pool.Phase.{Phase}
 use Rattle.pool_core.specs.declared.pool.Phase.TheVariants as phase
 use Rattle.pool_core.specs.declared.pool.Pool.{Pool}
-use Rattle.pool_core.specs.AbstractPool.{Held, EndedBy, Entry, Run, Said, AbstractPool, IsIn, SameMembers, SameView, Mark, IsSpentBy, IsUsed, KeepsSpent, set}
+use Rattle.pool_core.specs.AbstractPool.{Held, EndedBy, Entry, Run, Said, AbstractPool, IsIn, SameMembers, SameView, SlotMark, IsSpentBy, IsUsed, KeepsSpent, set}
 use Rattle.pool_core.specs.AbstractStep.{AbstractStep, Time, Queue, Acknowledge, Grant, Start, Stop, Free, Finish, Takes}
 use Rattle.pool_core.specs.Events.{reading_of}
 use Rattle.pool_core.specs.Histories.{LeadsTo}
 use Rattle.pool_core.specs.Moving.{time_to, steps_of, EachMoves}
 use Rattle.pool_core.specs.Numbers.{JobId, RunNo, same_job, same_slot}
-use Rattle.pool_core.specs.Reactions.{opening_pool, refusal, open_refusal, after, job_after, phase_after}
+use Rattle.pool_core.specs.Reactions.{opening_pool, refusal, open_refusal, after, job_after}
 use Rattle.pool_core.specs.Safe.{Safe, RunsLeased}
 use Rattle.pool_core.proofs.Steps.{both_true, takes_safe}
 use Rattle.pool_core.specs.View.{the_job, the_slot, the_claim, the_run, run_of, marks_after, state_of, how_of, said_with, acked_in, runs_in, said_in, view_of}
@@ -70,7 +70,11 @@ judged_both request slot judged ok =
 abbrev view : ℕ → ℕ → Option Job → AbstractPool
 view memory latest at = view_of (pool [] memory latest at false)
 
-submitted : (memory latest : ℕ) (program : List ℕ) (request reading : ℕ) → Takes (view memory latest None) (steps_of (pool [] memory latest None false) (event.Submit program request reading)) (view memory (max latest reading) (job program request phase.Idle))
+-- the event makes its steps, from the pool with this job to the next
+abbrev Makes : ℕ → ℕ → Option Job → Event → Type 0
+Makes memory latest at e = Takes (view memory latest at) (steps_of (pool [] memory latest at false) e) (view memory (max latest (reading_of e)) (job_after at e))
+
+submitted : (memory latest : ℕ) (program : List ℕ) (request reading : ℕ) → Makes memory latest None (event.Submit program request reading)
 submitted memory latest program request reading =
     timed (view memory latest None) (view memory (max latest reading) (job program request phase.Idle)) reading (Queue the_job request ∷ Acknowledge the_job ∷ []) (
       refl,
@@ -95,10 +99,10 @@ unspent (inl h) = omega arith
 unspent (inr (inl h)) = omega (arith, h.1)
 unspent (inr (inr h)) = omega (arith, h.1)
 
-abbrev mark : ℕ → Mark
+abbrev mark : ℕ → SlotMark
 mark last = record { boot = 0; ended = 0; held = Some (record { claim = the_claim; last = last }) }
 
-abbrev SpentAt : RunNo → Option Mark → Type 0
+abbrev SpentAt : RunNo → Option SlotMark → Type 0
 SpentAt run o = IsSomeAnd o (λ k. (run.claim.boot < k.boot) ⊎ (((run.claim.boot ≡ k.boot) × (run.claim.seq ≤ k.ended)) ⊎ IsUsed k.held run))
 
 -- the slot's mark loses no spent run as it uses numbers
@@ -115,7 +119,7 @@ more_used m n more run = by_test (same_slot run.claim.slot the_slot)
     by_test false h = h
 
 started : (memory latest : ℕ) (program : List ℕ) (request : ℕ) (judged : MemoryMatch) (reading : ℕ) → judged.request ≡ request → judged.slot ≡ memory
-    → Takes (view memory latest (job program request phase.Idle)) (steps_of (pool [] memory latest (job program request phase.Idle) false) (event.Start judged reading)) (view memory (max latest reading) (job program request (phase.Running judged reading)))
+    → Makes memory latest (job program request phase.Idle) (event.Start judged reading)
 started memory latest program request judged reading asks has =
     timed (view memory latest (job program request phase.Idle)) (view memory (max latest reading) (job program request (phase.Running judged reading))) reading (Grant the_job the_run reading ∷ Start (run_of judged reading) (marks_after 1) ∷ []) (
       (refl, refl),
@@ -182,7 +186,7 @@ the_end r there = absurd there
 
 -- a run has ended, and its job is finished or held
 ended : (memory latest : ℕ) (program : List ℕ) (request : ℕ) (judged : MemoryMatch) (until : ℕ) (end : End) (reading : ℕ)
-    → Takes (view memory latest (job program request (phase.Running judged until))) (steps_of (pool [] memory latest (job program request (phase.Running judged until)) false) (event.Ended end reading)) (view memory (max latest reading) (job program request (phase_after end)))
+    → Makes memory latest (job program request (phase.Running judged until)) (event.Ended end reading)
 ended memory latest program request judged until (Exited code) reading =
     let running = entry request (phase.Running judged until) in
     let finished = entry request (phase.Finished (Exited code)) in
@@ -201,7 +205,7 @@ ended memory latest program request judged until NotStarted reading =
     (Stop (run_of judged until) (Some (how_of NotStarted)) ∷ Free the_job Held ∷ [])
     (inl refl, ((inr refl, inl (inr (inr (refl, omega arith)), the_end)), rewritten memory (max latest reading) (Some running) (Some (entry request phase.Held)) (said_with (how_of NotStarted))))
 
-closing : (memory latest : ℕ) (at : Option Job) (reading : ℕ) → Takes (view memory latest at) (steps_of (pool [] memory latest at false) (event.Close reading)) (view memory (max latest reading) at)
+closing : (memory latest : ℕ) (at : Option Job) (reading : ℕ) → Makes memory latest at (event.Close reading)
 closing memory latest at reading =
     timed (view memory latest at) (view memory (max latest reading) at) reading []
     (record {
@@ -218,7 +222,7 @@ closing memory latest at reading =
 
 -- an accepted event of a pool that is open makes its steps
 moves_at : (memory latest : ℕ) (at : Option Job) (e : Event) → open_refusal (pool [] memory latest at false) e ≡ None
-    → Takes (view memory latest at) (steps_of (pool [] memory latest at false) e) (view memory (max latest (reading_of e)) (job_after at e))
+    → Makes memory latest at e
 moves_at memory latest None (event.Submit program request reading) ok = submitted memory latest program request reading
 moves_at memory latest None (event.Start judged reading) ok = cc
 moves_at memory latest None (event.Ended end reading) ok = cc
@@ -227,7 +231,7 @@ moves_at memory latest (Some j) (event.Submit program request reading) ok = cc
 moves_at memory latest (Some j) (event.Start judged reading) ok = by_phase j.program j.memory j.phase ok
   where
     by_phase : (program : List ℕ) (request : ℕ) (ph : Phase) → open_refusal (pool [] memory latest (job program request ph) false) (event.Start judged reading) ≡ None
-        → Takes (view memory latest (job program request ph)) (steps_of (pool [] memory latest (job program request ph) false) (event.Start judged reading)) (view memory (max latest reading) (job program request (phase.Running judged reading)))
+        → Makes memory latest (job program request ph) (event.Start judged reading)
     by_phase program request phase.Idle ok =
         let both = judged_both request memory judged ok in
         started memory latest program request judged reading both.0 both.1
@@ -237,7 +241,7 @@ moves_at memory latest (Some j) (event.Start judged reading) ok = by_phase j.pro
 moves_at memory latest (Some j) (event.Ended end reading) ok = by_phase j.program j.memory j.phase ok
   where
     by_phase : (program : List ℕ) (request : ℕ) (ph : Phase) → open_refusal (pool [] memory latest (job program request ph) false) (event.Ended end reading) ≡ None
-        → Takes (view memory latest (job program request ph)) (steps_of (pool [] memory latest (job program request ph) false) (event.Ended end reading)) (view memory (max latest reading) (job program request (phase_after end)))
+        → Makes memory latest (job program request ph) (event.Ended end reading)
     by_phase program request phase.Idle ok = cc
     by_phase program request (phase.Running judged until) ok = ended memory latest program request judged until end reading
     by_phase program request phase.Held ok = cc
@@ -245,6 +249,14 @@ moves_at memory latest (Some j) (event.Ended end reading) ok = by_phase j.progra
 moves_at memory latest (Some j) (event.Close reading) ok = closing memory latest (Some j) reading
 
 -- a pool that accepts an event is open
+pub open_before : (p : Pool) (e : Event) → refusal p e ≡ None → p.closed ≡ false
+open_before p e ok = by_test p.closed ok
+  where
+    by_test : (b : Bool) → (if b then Some error.Closed else open_refusal p e) ≡ None → b ≡ false
+    by_test true ok = cc
+    by_test false ok = refl
+
+-- and refuses it for no other cause
 pub opened : (p : Pool) (e : Event) → refusal p e ≡ None → open_refusal p e ≡ None
 opened p e ok = by_test p.closed ok
   where

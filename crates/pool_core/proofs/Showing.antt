@@ -13,9 +13,9 @@ use Rattle.pool_core.specs.declared.pool.Phase.{Phase}
 use Rattle.pool_core.specs.declared.pool.Phase.TheVariants.{Idle, Running, Held, Finished}
 use Rattle.pool_core.specs.declared.pool.Pool.{Pool}
 use Rattle.pool_core.specs.Answers.{kept_of}
-use Rattle.pool_core.specs.Histories.{LeadsTo, Shows, submit_in, launch_in, end_in, readings, submits, launches, ends, submits_of, launches_of, ends_of}
-use Rattle.pool_core.specs.Reactions.{opening_pool, open_refusal, answer_to, after, job_after}
-use Rattle.pool_core.proofs.Moving.{opened}
+use Rattle.pool_core.specs.Histories.{LeadsTo, Shows, submit_in, launch_in, end_in, readings, submits, launches, ends, submits_of, launches_of, ends_of, is_close, ends_in_close}
+use Rattle.pool_core.specs.Reactions.{opening_pool, refusal, open_refusal, answer_to, after, job_after}
+use Rattle.pool_core.proofs.Moving.{opened, open_before}
 
 abbrev pool : ℕ → Option Job → Pool
 pool memory at = record { name = []; memory = memory; latest = 0; job = at; closed = false }
@@ -97,6 +97,21 @@ goes p (s ∷ ss) q leads =
       ended = first (λ x. end_in x.event) s ss (ends_of q.job) (ends_of p.job) (ends_of (job_after p.job s.event)) rest.ended step.ended;
     }
 
+-- an open pool is closed by a close alone
+closed_on : (p : Pool) (e : Event) → refusal p e ≡ None → (after p e).closed ≡ is_close e
+closed_on p e ok = by_event e (open_before p e ok)
+  where
+    by_event : (e : Event) → p.closed ≡ false → (after p e).closed ≡ is_close e
+    by_event (Submit program memory reading) open_yet = open_yet
+    by_event (Start judged reading) open_yet = open_yet
+    by_event (Ended end reading) open_yet = open_yet
+    by_event (Close reading) open_yet = refl
+
+closes : (p : Pool) (list : List Step) (q : Pool) → p.closed ≡ false → LeadsTo p list q → q.closed ≡ ends_in_close list
+closes p [] q open_yet leads = ap (λ w. w.closed) leads ∙ open_yet
+closes p (s ∷ []) q open_yet leads = ap (λ w. w.closed) leads.1 ∙ closed_on p s.event leads.0.accepted
+closes p (s ∷ t ∷ ss) q open_yet leads = closes (after p s.event) (t ∷ ss) q (open_before (after p s.event) t.event leads.1.0.accepted) leads.1
+
 pub shows : (name : List ℕ) (memory : ℕ) (list : List Step) (p : Pool) → LeadsTo (opening_pool name memory) list p → Shows name memory list p
 shows name memory list p leads =
     let all = goes (opening_pool name memory) list p leads in
@@ -107,4 +122,5 @@ shows name memory list p leads =
       submitted = sym all.submitted;
       launched = sym all.launched;
       ended = sym all.ended;
+      closed = closes (opening_pool name memory) list p refl leads;
     }

@@ -49,9 +49,12 @@ same_job-same a = rw (eq-eqb a.cluster a.cluster refl, eq-eqb a.proc a.proc refl
 other_job : (q job : JobId) → same_job q job ≡ false → q ≢ job
 other_job q job is same = let itself = subst (λ k. same_job q k ≡ true) same (same_job-same q) in cc
 
--- the entry of a job after one job's state was changed
+-- where a job is the one whose state was changed, its entry has the new state; else its entry is as it was
+abbrev EntryAt : AbstractPool → JobId → (State → State) → JobId → Type 0
+EntryAt v job f q = ((q ≡ job) × ((changed_job v job f).jobs q ≡ option_map (changed_entry f) (v.jobs q))) ⊎ ((q ≢ job) × ((changed_job v job f).jobs q ≡ v.jobs q))
+
 entry_at : (v : AbstractPool) (job : JobId) (f : State → State) (q : JobId)
-    → ((q ≡ job) × ((changed_job v job f).jobs q ≡ option_map (changed_entry f) (v.jobs q))) ⊎ ((q ≢ job) × ((changed_job v job f).jobs q ≡ v.jobs q))
+    → EntryAt v job f q
 entry_at v job f q = by_test (same_job q job) refl
   where
     by_test : (b : Bool) → same_job q job ≡ b
@@ -72,21 +75,21 @@ state_changed f s (Some e) stands = ap f stands
 changed_core : (v : AbstractPool) (job : JobId) (f : State → State) (q : JobId) (core : Core) → HasCore v q core → HasCore (changed_job v job f) q core
 changed_core v job f q core has = by_place (entry_at v job f q)
   where
-    by_place : ((q ≡ job) × ((changed_job v job f).jobs q ≡ option_map (changed_entry f) (v.jobs q))) ⊎ ((q ≢ job) × ((changed_job v job f).jobs q ≡ v.jobs q)) → HasCore (changed_job v job f) q core
+    by_place : EntryAt v job f q → HasCore (changed_job v job f) q core
     by_place (inl at) = subst (λ o. IsSomeAnd o (λ e. e.core ≡ core)) (sym at.1) (core_kept f core (v.jobs q) has)
     by_place (inr at) = subst (λ o. IsSomeAnd o (λ e. e.core ≡ core)) (sym at.1) has
 
 other_state : (v : AbstractPool) (job : JobId) (f : State → State) (q : JobId) (s : State) → q ≢ job → Stands v q s → Stands (changed_job v job f) q s
 other_state v job f q s other stands = by_place (entry_at v job f q)
   where
-    by_place : ((q ≡ job) × ((changed_job v job f).jobs q ≡ option_map (changed_entry f) (v.jobs q))) ⊎ ((q ≢ job) × ((changed_job v job f).jobs q ≡ v.jobs q)) → Stands (changed_job v job f) q s
+    by_place : EntryAt v job f q → Stands (changed_job v job f) q s
     by_place (inl at) = absurd (other at.0)
     by_place (inr at) = subst (λ o. IsSomeAnd o (λ e. e.state ≡ s)) (sym at.1) stands
 
 new_state : (v : AbstractPool) (job : JobId) (f : State → State) (s : State) → Stands v job s → Stands (changed_job v job f) job (f s)
 new_state v job f s stands = by_place (entry_at v job f job)
   where
-    by_place : ((job ≡ job) × ((changed_job v job f).jobs job ≡ option_map (changed_entry f) (v.jobs job))) ⊎ ((job ≢ job) × ((changed_job v job f).jobs job ≡ v.jobs job)) → Stands (changed_job v job f) job (f s)
+    by_place : EntryAt v job f job → Stands (changed_job v job f) job (f s)
     by_place (inl at) = subst (λ o. IsSomeAnd o (λ e. e.state ≡ f s)) (sym at.1) (state_changed f s (v.jobs job) stands)
     by_place (inr at) = absurd (at.0 refl)
 
@@ -115,14 +118,18 @@ step_core v (Hold job) q core ok has = changed_core v job (λ s. Held) q core ha
 step_core v (Release job) q core ok has = changed_core v job (λ s. Idle) q core has
 step_core v (Lengthen job end) q core ok has = changed_core v job (lengthened end) q core has
 
+-- the runs of a job are leased by its new state
+abbrev OwnLeased : AbstractPool → JobId → (State → State) → Type 0
+OwnLeased v job f = (r : Run) (end : ℕ) → IsIn r v.runs → Stands v job (Under r.run end) → r.until ≤ end → IsLeased (changed_job v job f) job r.run r.until
+
 -- one job's new state keeps the runs leased, where those of this job are
 changed_leased : (v : AbstractPool) (job : JobId) (f : State → State)
-    → ((r : Run) (end : ℕ) → IsIn r v.runs → Stands v job (Under r.run end) → r.until ≤ end → IsLeased (changed_job v job f) job r.run r.until)
+    → OwnLeased v job f
     → RunsLeased v → RunsLeased (changed_job v job f)
 changed_leased v job f own leased r there = by_lease (leased r there)
   where
     by_place : (end : ℕ) → Stands v r.job (Under r.run end) → r.until ≤ end
-        → ((r.job ≡ job) × ((changed_job v job f).jobs r.job ≡ option_map (changed_entry f) (v.jobs r.job))) ⊎ ((r.job ≢ job) × ((changed_job v job f).jobs r.job ≡ v.jobs r.job))
+        → EntryAt v job f r.job
         → IsLeased (changed_job v job f) r.job r.run r.until
     by_place end stands within (inl at) =
         subst (λ q. IsLeased (changed_job v job f) q r.run r.until) (sym at.0) (own r end there (subst (λ q. Stands v q (Under r.run end)) at.0 stands) within)
@@ -134,7 +141,7 @@ changed_leased v job f own leased r there = by_lease (leased r there)
 
 -- a run of a job whose grant is over has a past lease
 over_leased : (v : AbstractPool) (job : JobId) (f : State → State) → IsSomeAnd (v.jobs job) (λ e. IsOver v e.state)
-    → (r : Run) (end : ℕ) → IsIn r v.runs → Stands v job (Under r.run end) → r.until ≤ end → IsLeased (changed_job v job f) job r.run r.until
+    → OwnLeased v job f
 over_leased v job f over r end there stands within = by_cause (at_state (v.jobs job) (IsOver v) (Under r.run end) stands over)
   where
     by_cause : IsDead v r.run ⊎ (end ≤ v.moment) → IsLeased (changed_job v job f) job r.run r.until
@@ -143,12 +150,12 @@ over_leased v job f over r end there stands within = by_cause (at_state (v.jobs 
 
 -- a job in another state has no run under a lease
 not_under : (v : AbstractPool) (job : JobId) (f : State → State) (s : State) → Stands v job s → ((run : RunNo) (end : ℕ) → s ≢ Under run end)
-    → (r : Run) (end : ℕ) → IsIn r v.runs → Stands v job (Under r.run end) → r.until ≤ end → IsLeased (changed_job v job f) job r.run r.until
+    → OwnLeased v job f
 not_under v job f s here other r end there stands within = absurd (other r.run end (sym (at_state (v.jobs job) (λ t. t ≡ s) (Under r.run end) stands here)))
 
 -- a longer lease covers what the shorter one did
 lengthened_leased : (v : AbstractPool) (job : JobId) (run : RunNo) (old end : ℕ) → Stands v job (Under run old) → old ≤ end
-    → (r : Run) (until : ℕ) → IsIn r v.runs → Stands v job (Under r.run until) → r.until ≤ until → IsLeased (changed_job v job (lengthened end)) job r.run r.until
+    → OwnLeased v job (lengthened end)
 lengthened_leased v job run old end here longer r until there stands within =
     let same : Under r.run until ≡ Under run old = at_state (v.jobs job) (λ t. t ≡ Under run old) (Under r.run until) stands here in
     let shorter : until ≡ old = cc in
@@ -209,7 +216,7 @@ step_leased v (Stop run how) safe ok leased r there = leased r (in_filter (λ s.
 step_leased v (Free job state) safe ok leased r there = changed_leased v job (λ s. state) (over_leased v job (λ s. state) ok.1) leased r there
 step_leased v (Finish job (EndedBy run how)) safe ok leased r there = changed_leased v job (λ s. Done (EndedBy run how)) dead_run leased r there
   where
-    dead_run : (x : Run) (end : ℕ) → IsIn x v.runs → Stands v job (Under x.run end) → x.until ≤ end → IsLeased (changed_job v job (λ s. Done (EndedBy run how))) job x.run x.until
+    dead_run : OwnLeased v job (λ s. Done (EndedBy run how))
     dead_run x end at stands within =
         let same : Under x.run end ≡ Under run ok.0.0 = at_state (v.jobs job) (λ t. t ≡ Under run ok.0.0) (Under x.run end) stands ok.0.1 in
         let its : x.run ≡ run = cc in
@@ -229,8 +236,16 @@ step_leased v (Hold job) safe ok leased r there = changed_leased v job (λ s. He
 step_leased v (Release job) safe ok leased r there = changed_leased v job (λ s. Idle) (not_under v job (λ s. Idle) Held ok (λ n e. λ no. cc)) leased r there
 step_leased v (Lengthen job end) safe (run, old, stands, longer) leased r there = changed_leased v job (lengthened end) (lengthened_leased v job run old end stands longer) leased r there
 
+-- two runs have one slot or one number
+abbrev Shares : Run → Run → Type 0
+Shares r s = (r.slot ≡ s.slot) ⊎ (r.run.number ≡ s.run.number)
+
+-- no two runs have one slot or one number
+abbrev Alone : AbstractPool → Type 0
+Alone v = (r s : Run) → IsIn r v.runs → IsIn s v.runs → Shares r s → r ≡ s
+
 -- runs that are alone and leased leave no job two leases
-pub one_lease : (v : AbstractPool) → ((r s : Run) → IsIn r v.runs → IsIn s v.runs → (r.slot ≡ s.slot) ⊎ (r.run.number ≡ s.run.number) → r ≡ s) → RunsLeased v
+one_lease : (v : AbstractPool) → Alone v → RunsLeased v
     → (r s : Run) → IsIn r v.runs → IsIn s v.runs → r.job ≡ s.job → v.moment < r.until → v.moment < s.until → r ≡ s
 one_lease v alone leased r s here there same later lasting = by_lease (leased r here) (leased s there)
   where
@@ -241,10 +256,6 @@ one_lease v alone leased r s here there same later lasting = by_lease (leased r 
         let one : Under r.run end ≡ Under s.run late = at_state (v.jobs r.job) (λ t. t ≡ Under s.run late) (Under r.run end) stands (subst (λ q. Stands v q (Under s.run late)) (sym same) lasts) in
         let number : r.run.number ≡ s.run.number = cc in
         alone r s here there (inr number)
-
--- no two runs have one slot or one number
-abbrev Alone : AbstractPool → Type 0
-Alone v = (r s : Run) → IsIn r v.runs → IsIn s v.runs → (r.slot ≡ s.slot) ⊎ (r.run.number ≡ s.run.number) → r ≡ s
 
 extended_slot : (run : RunNo) (until : ℕ) (s : Run) → (extended run until s).slot ≡ s.slot
 extended_slot run until s = by_test (same_run s.run run)
@@ -261,12 +272,12 @@ extended_run run until s = by_test (same_run s.run run)
     by_test false = refl
 
 -- a new run shares neither its slot nor its number
-new_alone : (v : AbstractPool) (new s : Run) → MayStart v new → IsIn s v.runs → (new.slot ≡ s.slot) ⊎ (new.run.number ≡ s.run.number) → new ≡ s
+new_alone : (v : AbstractPool) (new s : Run) → MayStart v new → IsIn s v.runs → Shares new s → new ≡ s
 new_alone v new s may there (inl slot) = absurd (may.free s there (sym slot))
 new_alone v new s may there (inr number) = absurd (may.new_number s there (sym number))
 
 -- what two runs share, the runs that they come of share
-shared_before : (r s a b : Run) → r.slot ≡ a.slot → r.run ≡ a.run → s.slot ≡ b.slot → s.run ≡ b.run → (r.slot ≡ s.slot) ⊎ (r.run.number ≡ s.run.number) → (a.slot ≡ b.slot) ⊎ (a.run.number ≡ b.run.number)
+shared_before : (r s a b : Run) → r.slot ≡ a.slot → r.run ≡ a.run → s.slot ≡ b.slot → s.run ≡ b.run → Shares r s → Shares a b
 shared_before r s a b r_slot r_run s_slot s_run (inl slot) = inl (sym r_slot ∙ (slot ∙ s_slot))
 shared_before r s a b r_slot r_run s_slot s_run (inr number) = inr (ap (λ x. x.number) (sym r_run) ∙ (number ∙ ap (λ x. x.number) s_run))
 
@@ -278,23 +289,23 @@ step_alone v (Order job) ok alone r s = alone r s
 step_alone v (Grant job run end) ok alone r s = alone r s
 step_alone v (Start new marks) ok alone r s = both
   where
-    swapped : (r.slot ≡ new.slot) ⊎ (r.run.number ≡ new.run.number) → (new.slot ≡ r.slot) ⊎ (new.run.number ≡ r.run.number)
+    swapped : Shares r new → Shares new r
     swapped (inl e) = inl (sym e)
     swapped (inr e) = inr (sym e)
 
-    both : (r ≡ new) ⊎ IsIn r v.runs → (s ≡ new) ⊎ IsIn s v.runs → (r.slot ≡ s.slot) ⊎ (r.run.number ≡ s.run.number) → r ≡ s
+    both : (r ≡ new) ⊎ IsIn r v.runs → (s ≡ new) ⊎ IsIn s v.runs → Shares r s → r ≡ s
     both (inl a) (inl b) same = a ∙ sym b
-    both (inl a) (inr b) same = a ∙ new_alone v new s ok.0 b (subst (λ x. (x.slot ≡ s.slot) ⊎ (x.run.number ≡ s.run.number)) a same)
-    both (inr a) (inl b) same = sym (new_alone v new r ok.0 a (swapped (subst (λ x. (r.slot ≡ x.slot) ⊎ (r.run.number ≡ x.run.number)) b same))) ∙ sym b
+    both (inl a) (inr b) same = a ∙ new_alone v new s ok.0 b (subst (λ x. Shares x s) a same)
+    both (inr a) (inl b) same = sym (new_alone v new r ok.0 a (swapped (subst (λ x. Shares r x) b same))) ∙ sym b
     both (inr a) (inr b) same = alone r s a b same
 step_alone v (Mark marks) ok alone r s = alone r s
 step_alone v (Extend run until) ok alone r s = both
   where
-    both : IsIn r (map (extended run.run until) v.runs) → IsIn s (map (extended run.run until) v.runs) → (r.slot ≡ s.slot) ⊎ (r.run.number ≡ s.run.number) → r ≡ s
+    both : IsIn r (map (extended run.run until) v.runs) → IsIn s (map (extended run.run until) v.runs) → Shares r s → r ≡ s
     both here there same =
         let a = in_map (extended run.run until) r v.runs here in
         let b = in_map (extended run.run until) s v.runs there in
-        let shared : (a.0.slot ≡ b.0.slot) ⊎ (a.0.run.number ≡ b.0.run.number) =
+        let shared : Shares a.0 b.0 =
         shared_before r s a.0 b.0 (ap (λ x. x.slot) a.2 ∙ extended_slot run.run until a.0) (ap (λ x. x.run) a.2 ∙ extended_run run.run until a.0) (ap (λ x. x.slot) b.2 ∙ extended_slot run.run until b.0) (ap (λ x. x.run) b.2 ∙ extended_run run.run until b.0) same in
         a.2 ∙ (ap (extended run.run until) (alone a.0 b.0 a.1 b.1 shared) ∙ sym b.2)
 step_alone v (Stop run how) ok alone r s = λ here there same. alone r s (in_filter (λ x. not (same_run x.run run.run)) r v.runs here) (in_filter (λ x. not (same_run x.run run.run)) s v.runs there) same
@@ -304,7 +315,7 @@ step_alone v (Hold job) ok alone r s = alone r s
 step_alone v (Release job) ok alone r s = alone r s
 step_alone v (Lengthen job end) ok alone r s = alone r s
 
-step_slots : (v : AbstractPool) (k : AbstractStep) (slot : SlotId) → (made v k).slots slot ≡ v.slots slot
+pub step_slots : (v : AbstractPool) (k : AbstractStep) (slot : SlotId) → (made v k).slots slot ≡ v.slots slot
 step_slots v (Time moment) slot = refl
 step_slots v (Queue job core) slot = refl
 step_slots v (Acknowledge job) slot = refl
@@ -411,7 +422,7 @@ changed_accounted v job f own all q = by_place (entry_at v job f q)
     own_job same None a = tt
     own_job same (Some e) a = accounted_on v (changed_job v job f) q (f e.state) (λ x h. h) (λ h. h) (subst (λ j. IsAccounted v j (f e.state)) (sym same) (own e.state (subst (λ j. IsAccounted v j e.state) same a)))
 
-    by_place : ((q ≡ job) × ((changed_job v job f).jobs q ≡ option_map (changed_entry f) (v.jobs q))) ⊎ ((q ≢ job) × ((changed_job v job f).jobs q ≡ v.jobs q)) → IfSome ((changed_job v job f).jobs q) (λ e. IsAccounted (changed_job v job f) q e.state)
+    by_place : EntryAt v job f q → IfSome ((changed_job v job f).jobs q) (λ e. IsAccounted (changed_job v job f) q e.state)
     by_place (inl at) = subst (λ o. IfSome o (λ e. IsAccounted (changed_job v job f) q e.state)) (sym at.1) (own_job at.0 (v.jobs q) (all q))
     by_place (inr at) = subst (λ o. IfSome o (λ e. IsAccounted (changed_job v job f) q e.state)) (sym at.1) (same_jobs (v.jobs q) (all q))
 
@@ -580,3 +591,20 @@ step_dead v k run ok dead = (step_spent v k ok run dead.0, λ r there same. by_s
     by_source : (r : Run) → r.run ≡ run → ComesOf v (made v k).marks r.run → ⊥
     by_source r same (inl (s, old, its)) = dead.1 s old (sym its ∙ same)
     by_source r same (inr new) = new.0 (subst (IsSpent v) (sym same) dead.0)
+
+-- what was acknowledged stays so
+pub step_acked : (v : AbstractPool) (k : AbstractStep) (q : JobId) → IsIn q v.acked → IsIn q (made v k).acked
+step_acked v (Time moment) q there = there
+step_acked v (Queue job core) q there = there
+step_acked v (Acknowledge job) q there = inr there
+step_acked v (Order job) q there = there
+step_acked v (Grant job run end) q there = there
+step_acked v (Start new marks) q there = there
+step_acked v (Mark marks) q there = there
+step_acked v (Extend run until) q there = there
+step_acked v (Stop run how) q there = there
+step_acked v (Free job state) q there = there
+step_acked v (Finish job outcome) q there = there
+step_acked v (Hold job) q there = there
+step_acked v (Release job) q there = there
+step_acked v (Lengthen job end) q there = there

@@ -1,4 +1,4 @@
--- The abstract pool: what a pool promises of its jobs and runs, without messages, boots, logs or pending work.
+-- The abstract pool: what a pool promises of its jobs and runs, without messages, logs or pending work.
 use Rattle.std.specs.Prelude.{◌≡◌, ◌≢◌, ◌⊎◌, ◌↔◌, ℕ, ℤ, ◌<◌, ◌≤◌, List, [], ◌∷◌, Option, IsSomeAnd, Bool, if◌then◌else◌}
 use Rattle.pool_core.specs.Ads.{Core, SlotAd, Judged}
 use Rattle.pool_core.specs.Numbers.{JobId, SlotId, ClaimNo, RunNo}
@@ -49,13 +49,13 @@ pub record HeldClaim : Type 0 where
   pub last : ℕ
 
 -- what a slot remembers of its claims: its machine's boot, the greatest seq of one that has ended in it, and the held one
-pub record Mark : Type 0 where
+pub record SlotMark : Type 0 where
   pub boot : ℕ
   pub ended : ℕ
   pub held : Option HeldClaim
 
 abbrev pub Marks : Type 0
-Marks = SlotId → Option Mark
+Marks = SlotId → Option SlotMark
 
 -- The sets are lists, of which only the members count.
 pub record AbstractPool : Type 0 where

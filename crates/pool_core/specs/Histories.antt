@@ -1,5 +1,5 @@
 -- What an accepted event does, and lists of accepted events.
-use Rattle.std.specs.Prelude.{◌≡◌, ℕ, List, [], ◌∷◌, Option, Some, None, false, map, fold, max}
+use Rattle.std.specs.Prelude.{◌≡◌, ℕ, List, [], ◌∷◌, Option, Some, None, Bool, true, false, map, fold, max}
 use Rattle.std.specs.List.{filter_map}
 use Rattle.pool_outer.specs.declared.spawner.Launch.{Launch}
 use Rattle.pool_core.specs.declared.answer.Kept.{Kept}
@@ -51,6 +51,17 @@ end_in (Start judged reading) = None
 end_in (Ended end reading) = Some end
 end_in (Close reading) = None
 
+abbrev pub is_close : Event → Bool
+is_close (Submit program memory reading) = false
+is_close (Start judged reading) = false
+is_close (Ended end reading) = false
+is_close (Close reading) = true
+
+abbrev pub ends_in_close : List Step → Bool
+ends_in_close [] = false
+ends_in_close (s ∷ []) = is_close s.event
+ends_in_close (s ∷ t ∷ ss) = ends_in_close (t ∷ ss)
+
 -- what a history says, in order: its readings, the programs that were submitted with what they ask for, the launches that
 -- it answered, and the ends of runs
 abbrev pub readings : List Step → List ℕ
@@ -90,8 +101,8 @@ abbrev pub ends_of : Option Job → List End
 ends_of None = []
 ends_of (Some j) = ends_for j.phase
 
--- The pool shows what its history says: of one machine, the greatest reading, the one job, the one launch of its one run, and
--- that run's one end.
+-- The pool shows what its history says: of one machine, the greatest reading, the one job, the one launch of its one run,
+-- that run's one end, and whether the history has come to its close.
 pub record Shows (name : List ℕ) (memory : ℕ) (list : List Step) (p : Pool) : Type 0 where
   pub machine : p.name ≡ name
   pub slot : p.memory ≡ memory
@@ -99,3 +110,4 @@ pub record Shows (name : List ℕ) (memory : ℕ) (list : List Step) (p : Pool) 
   pub submitted : submits list ≡ submits_of p.job
   pub launched : launches list ≡ launches_of p.job
   pub ended : ends list ≡ ends_of p.job
+  pub closed : p.closed ≡ ends_in_close list

@@ -45,16 +45,16 @@ is_judged None memory judged = false
 is_judged (Some j) memory judged = (judged.request == j.memory) && (judged.slot == memory)
 
 -- there is nothing to do for a job in that phase, whose request is too large for the slot or not
-abbrev pub is_over : Phase → Bool → Bool
-is_over Idle too_large = too_large
-is_over (Running judged until) too_large = false
-is_over Held too_large = true
-is_over (Finished end) too_large = true
+abbrev pub is_settled : Phase → Bool → Bool
+is_settled Idle too_large = too_large
+is_settled (Running judged until) too_large = false
+is_settled Held too_large = true
+is_settled (Finished end) too_large = true
 
 -- the job was submitted, and nothing is left to do for it on a slot of that memory
 abbrev pub is_quiet : Option Job → ℕ → Bool
 is_quiet None memory = false
-is_quiet (Some j) memory = is_over j.phase (nat_lt memory j.memory)
+is_quiet (Some j) memory = is_settled j.phase (nat_lt memory j.memory)
 
 -- why a pool that isn't closed refuses an event
 abbrev pub open_refusal : Pool → Event → Option StepError

@@ -28,19 +28,25 @@ pub struct Stepped {
     pub kept: Kept,
 }
 
-/// Why an event isn't accepted.
+/// Why an event isn't accepted: the first of these that holds.
 #[derive(Clone, Copy, Debug, PartialEq, Eq, Error)]
 pub enum StepError {
+    /// After a Close.
     #[error("the pool is closed")]
     Closed,
+    /// A second Submit.
     #[error("there is a job already")]
     Jobs,
+    /// A Start where no job is idle.
     #[error("the slot has a run, or no job is idle")]
     Occupied,
+    /// A Start whose match isn't one of the job's and the slot's numbers.
     #[error("the match is not of this job and this slot")]
     AdMoved,
+    /// An Ended where nothing runs.
     #[error("nothing runs")]
     NoRun,
+    /// A Close before a Submit, while the job runs, or while it is idle and fits the slot.
     #[error("something is left to do")]
     NotQuiet,
     #[error("out of memory")]

@@ -1,19 +1,18 @@
 //! What holds of every history, and of every abstract pool.
 
 ghost use Rattle.std.specs.Prelude.{◌≡◌, ℕ, List, [], ◌∷◌, ◌++◌, None};
+ghost use Rattle.pool_core.specs.declared.event.Event.{Event};
 ghost use Rattle.pool_core.specs.declared.history.Step.{Step};
 ghost use Rattle.pool_core.specs.declared.pool.Pool.{Pool};
-ghost use Rattle.pool_core.specs.Reactions.{opening_pool};
+ghost use Rattle.pool_core.specs.Reactions.{opening_pool, refusal, after};
 ghost use Rattle.pool_core.specs.Histories.{Reacts, LeadsTo, Shows};
-ghost use Rattle.pool_core.specs.Moving.{steps_of, EachMoves};
-ghost use Rattle.pool_core.specs.declared.event.Event.{Event};
-ghost use Rattle.pool_core.specs.Reactions.{refusal, after};
-ghost use Rattle.pool_core.specs.View.{view_of};
 ghost use Rattle.pool_core.specs.Ads.{Core};
-ghost use Rattle.pool_core.specs.Numbers.{JobId, RunNo};
-ghost use Rattle.pool_core.specs.AbstractPool.{AbstractPool, Outcome, Done, IsDead, HasCore, Stands};
+ghost use Rattle.pool_core.specs.Numbers.{JobId, SlotId, RunNo};
+ghost use Rattle.pool_core.specs.AbstractPool.{AbstractPool, Outcome, Done, IsIn, IsDead, HasCore, Stands};
 ghost use Rattle.pool_core.specs.AbstractStep.{AbstractStep, Allowed, made, Takes, Moves};
 ghost use Rattle.pool_core.specs.Safe.{Safe, RunsLeased, RunsSpent};
+ghost use Rattle.pool_core.specs.View.{view_of};
+ghost use Rattle.pool_core.specs.Moving.{steps_of, EachMoves};
 
 /// A history goes on by one more accepted event.
 pub fn histories_grow()
@@ -46,10 +45,16 @@ pub fn moves_keep_safe()
     ensures { (v w : AbstractPool) → Safe v → RunsLeased v → Moves v w → Safe w × RunsLeased w }
 {}
 
-/// No step takes a job away, changes its core or brings back one that has left the queue.
+/// No step takes a job away, changes its core, forgets that it was acknowledged or brings back one that has left the queue.
 pub fn steps_keep_jobs()
     ensures core { (v : AbstractPool) (k : AbstractStep) (job : JobId) (core : Core) → Allowed v k → HasCore v job core → HasCore (made v k) job core }
+    ensures acknowledged { (v : AbstractPool) (k : AbstractStep) (job : JobId) → IsIn job v.acked → IsIn job (made v k).acked }
     ensures done { (v : AbstractPool) (k : AbstractStep) (job : JobId) (outcome : Outcome) → Allowed v k → Stands v job (Done outcome) → Stands (made v k) job (Done outcome) }
+{}
+
+/// No step changes a slot's ad.
+pub fn steps_keep_slots()
+    ensures { (v : AbstractPool) (k : AbstractStep) (slot : SlotId) → (made v k).slots slot ≡ v.slots slot }
 {}
 
 /// Every run that is there is spent, and no dead run comes back.

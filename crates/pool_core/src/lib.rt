@@ -15,7 +15,7 @@ pub use event::{End, Event};
 pub use history::{History, Step, StepList};
 pub use laws::{
     events_make_steps, histories_are_safe, histories_are_shown, histories_grow, moves_keep_safe,
-    steps_keep_dead, steps_keep_jobs, steps_keep_safe,
+    steps_keep_dead, steps_keep_jobs, steps_keep_safe, steps_keep_slots,
 };
 pub use memory_match::MemoryMatch;
 pub use pool::{Job, Phase, Pool};

@@ -9,7 +9,8 @@ use ad_value::{Copied, Memory, Seq, Text};
 use pool_outer::Launch;
 use std::alloc::Global;
 
-/// How a job stands. An attempt to start it that fails holds it.
+/// How a job stands (HTCondor manual, Job ClassAd Attributes, JobStatus: Idle, Running, Held, Completed). A job that
+/// could not be started is held.
 #[derive(Clone, Copy, Debug)]
 pub enum Phase {
     Idle,
@@ -19,7 +20,8 @@ pub enum Phase {
     Finished { end: End },
 }
 
-/// A job: its program, the memory that it asks for in MiB, and how it stands.
+/// A job: its program and the memory that it asks for, in MiB (HTCondor manual, condor_submit, executable and
+/// request_memory), and how it stands.
 #[derive(Debug, Drop)]
 pub struct Job {
     pub program: Text,
