@@ -4,3 +4,4 @@ pub mod Children
 pub mod MemoryFiles
 pub mod MemoryClock
 pub mod MemoryChildren
+pub mod Prepared

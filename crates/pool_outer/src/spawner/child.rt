@@ -1,5 +1,6 @@
 //! Programs of the system.
-ghost use Rattle.std.specs.Prelude.{◌≡◌};
+ghost use Rattle.std.specs.Prelude.{◌≡◌, IfSome, None};
+ghost use Rattle.std.specs.Process.{exit_code, exit_signal};
 
 use super::{ChildState, Launch, SpawnError, Spawner};
 use crate::faults::count_fault;
@@ -94,7 +95,10 @@ impl<R: Processes + Files<File = File> + Drop> Spawner for ChildSpawner<R> {
     }
 }
 
-fn ending(status: ExitStatus) -> ChildState {
+fn ending(status: ExitStatus) -> ChildState
+    ensures exited { IfSome (exit_code status) (λ code. result ≡ ChildState.Exited code) }
+    ensures signalled { exit_code status ≡ None → IfSome (exit_signal status) (λ signal. result ≡ ChildState.Signalled signal) }
+{
     match status.code() {
         Some(code) => ChildState::Exited(code),
         None => ChildState::Signalled(status.signal().unwrap_or(0)),

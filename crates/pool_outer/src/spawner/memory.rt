@@ -120,7 +120,10 @@ pub struct SureSpawner {
 }
 
 impl SureSpawner {
+    ghost use Rattle.pool_outer.specs.Prepared.{scripts_of};
+
     pub fn new(alloc: Global, scripts: Vec<Script>) -> SureSpawner
+        ensures scripts { scripts_of result ≡ scripts.items }
         ensures idle { ⟦<SureSpawner as Spawner>⟧.count result ≡ 0 }
     {
         SureSpawner {
@@ -200,7 +203,13 @@ pub struct MemSpawner {
 }
 
 impl MemSpawner {
+    ghost use Rattle.pool_outer.specs.Prepared.{scripts_of, sure_spawner, failing_launches, failing_polls, failing_kills};
+
     pub fn new(alloc: Global, scripts: Vec<Script>, fails: FailingSpawns) -> MemSpawner
+        ensures scripts { scripts_of (sure_spawner result) ≡ scripts.items }
+        ensures launches { failing_launches result ≡ fails.launches.items }
+        ensures polls { failing_polls result ≡ fails.polls.items }
+        ensures kills { failing_kills result ≡ fails.kills.items }
         ensures idle { ⟦<MemSpawner as Spawner>⟧.count result ≡ 0 }
         ensures faults { ⟦<MemSpawner as Spawner>⟧.faults result ≡ 0 }
     {

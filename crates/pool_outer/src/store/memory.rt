@@ -96,7 +96,10 @@ pub struct MemStore {
 }
 
 impl MemStore {
+    ghost use Rattle.pool_outer.specs.Prepared.{failing_calls};
+
     pub fn new(files: Vec<MemFile>, fails: Vec<u64>) -> MemStore
+        ensures fails { failing_calls result ≡ fails.items }
         ensures files { (name : List ℕ) → ⟦<MemStore as Store>⟧.file result name ≡ file_in files.items name }
         ensures faults { ⟦<MemStore as Store>⟧.faults result ≡ 0 }
     {
