@@ -88,6 +88,7 @@ fn command(alloc: Global) -> Result<Command<'static>, AllocError> {
     Command::new(alloc, "condor_pool")
         .version(VERSION)
         .about("An HTCondor pool in one process")
+        .disable_help_subcommand(true)
         .subcommand(run)
 }
 

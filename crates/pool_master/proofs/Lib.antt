@@ -1,3 +1,4 @@
+pub mod PoolRun
 pub mod Playing
 pub mod Pools
 pub mod RunLists

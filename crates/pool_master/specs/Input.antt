@@ -37,19 +37,19 @@ pub record IsJobFile (file : Option (List ℕ)) (program : List ℕ) (memory : �
   pub short : length bytes ≤ 4096
   pub is : IsSubmitFile bytes program memory
 
--- of the files that the words name, that one is refused at that line; the submit file only where the configuration isn't
+-- of a configuration and a submit file, that one is refused at that line; the submit file only where the configuration isn't
+abbrev pub IsRefusedOf : (List ℕ → Option (List ℕ)) → List ℕ → List ℕ → List ℕ → ℕ → Kind → Type 0
+IsRefusedOf file config submit name line kind = ((name ≡ config) × IsRefused config_forms (file config) line kind) ⊎ ((name ≡ submit) × IsAccepted config_forms (file config) × IsRefused submit_forms (file submit) line kind)
+
+-- the same, of the files that the words name
 pub record IsRefusedInput (file : List ℕ → Option (List ℕ)) (words : List (List ℕ)) (name : List ℕ) (line : ℕ) (kind : Kind) : Type 0 where
   pub config : List ℕ
   pub submit : List ℕ
   pub words_are : IsRun words config submit
-  pub refused : ((name ≡ config) × IsRefused config_forms (file config) line kind) ⊎ ((name ≡ submit) × IsAccepted config_forms (file config) × IsRefused submit_forms (file submit) line kind)
+  pub refused : IsRefusedOf file config submit name line kind
 
--- the machine's name and memory are those of the configuration that the words name, and the program and its request those of
--- the submit file
-pub record IsInput (file : List ℕ → Option (List ℕ)) (words : List (List ℕ)) (name : List ℕ) (memory : ℕ) (program : List ℕ) (request : ℕ) : Type 0 where
-  pub config : List ℕ
-  pub submit : List ℕ
-  pub words_are : IsRun words config submit
+-- a machine's name and memory are those of the configuration, and a program and its request those of the submit file
+pub record IsInputOf (file : List ℕ → Option (List ℕ)) (config submit : List ℕ) (name : List ℕ) (memory : ℕ) (program : List ℕ) (request : ℕ) : Type 0 where
   pub configured : IsConfigFile (file config) name memory
   pub submitted : IsJobFile (file submit) program request
 

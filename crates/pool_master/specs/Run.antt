@@ -1,28 +1,24 @@
 -- What a whole run leaves.
 use Rattle.std.specs.Prelude.{◌≡◌, ◌⊎◌, ℕ, ◌≤◌, List, [], ◌∷◌, ◌++◌, take, Bool, true, false, Option, Some, None}
-use Rattle.pool_core.specs.declared.event.Event.{Event}
-use Rattle.pool_core.specs.declared.event.Event.TheVariants.{Submit, Start, Ended, Close}
+use Rattle.pool_outer.specs.declared.spawner.ChildState.{ChildState}
+use Rattle.pool_outer.specs.declared.spawner.Launch.{Launch}
+use Rattle.pool_outer.specs.Cause.{Rose}
 use Rattle.pool_core.specs.declared.history.History.{History}
 use Rattle.pool_core.specs.declared.history.Step.{Step}
 use Rattle.pool_core.specs.declared.pool.Job.{Job}
 use Rattle.pool_core.specs.declared.pool.Phase.{Phase}
 use Rattle.pool_core.specs.declared.pool.Phase.TheVariants.{Idle, Running, Held, Finished}
 use Rattle.pool_core.specs.declared.pool.Pool.{Pool}
-use Rattle.pool_core.specs.Histories.{LeadsTo, submits}
+use Rattle.pool_core.specs.Histories.{LeadsTo, submits, ends_in_close}
 use Rattle.pool_core.specs.Moving.{EachMoves}
 use Rattle.pool_core.specs.Reactions.{opening_pool, after}
-use Rattle.pool_master.specs.Input.{IsInput}
+use Rattle.pool_master.specs.declared.status.Status.{Status}
+use Rattle.pool_master.specs.declared.status.Status.TheVariants as status
+use Rattle.pool_master.specs.Input.{IsInputOf}
+use Rattle.pool_master.specs.Runs.{started_runs, launches_of}
+use Rattle.pool_master.specs.Follows.{Follows}
+use Rattle.pool_master.specs.Words.{IsRun}
 use Rattle.pool_master.specs.UserLog.{IsUserLog}
-
-abbrev pub is_close : Event → Bool
-is_close (Submit program memory reading) = false
-is_close (Start judged reading) = false
-is_close (Ended end reading) = false
-is_close (Close reading) = true
-
-abbrev pub last_closes : Bool → List Step → Bool
-last_closes before [] = before
-last_closes before (s ∷ ss) = last_closes (is_close s.event) ss
 
 -- the pool that a history leads to
 abbrev pub pool_after : Pool → List Step → Pool
@@ -42,7 +38,7 @@ job_left (Some j) = is_unfinished j.phase
 
 abbrev pub ClosesFrom : Option Pool → List Step → Bool → Type 0
 ClosesFrom None list left = ⊥
-ClosesFrom (Some opening) list left = (last_closes false list ≡ true) × (job_left (pool_after opening list).job ≡ left)
+ClosesFrom (Some opening) list left = (ends_in_close list ≡ true) × (job_left (pool_after opening list).job ≡ left)
 
 -- the history ends in a Close, and then a job is left or none is
 abbrev pub IsClosed : History → Bool → Type 0
@@ -66,13 +62,38 @@ IsSafeFrom (Some opening) list = EachMoves opening list
 abbrev pub IsSafe : History → Type 0
 IsSafe history = IsSafeFrom history.opening history.list
 
--- the pool is opened as the configuration says, and what is submitted is the job of the submit file, if anything is yet
-pub record IsOfInput (file : List ℕ → Option (List ℕ)) (words : List (List ℕ)) (opening : Pool) (list : List Step) : Type 0 where
+-- what is submitted is that job, if anything is yet, and it is once the history ends in a Close
+pub record Submits (program : List ℕ) (request : ℕ) (list : List Step) : Type 0 where
+  pub partly : (submits list ≡ []) ⊎ (submits list ≡ (program, request) ∷ [])
+  pub closed : ends_in_close list ≡ true → submits list ≡ (program, request) ∷ []
+
+-- the pool is opened for that machine, and that job is submitted
+pub record IsOfJob (name : List ℕ) (memory : ℕ) (program : List ℕ) (request : ℕ) (opening : Pool) (list : List Step) : Type 0 where
+  pub name_is : opening.name ≡ name
+  pub memory_is : opening.memory ≡ memory
+  pub submitted : Submits program request list
+
+abbrev pub OfJobFrom : List ℕ → ℕ → List ℕ → ℕ → Option Pool → List Step → Type 0
+OfJobFrom name memory program request None list = Unit {0}
+OfJobFrom name memory program request (Some opening) list = IsOfJob name memory program request opening list
+
+-- the machine is that of the configuration, and the job that of the submit file
+pub record IsOfFiles (file : List ℕ → Option (List ℕ)) (config submit : List ℕ) (opening : Pool) (list : List Step) : Type 0 where
   pub program : List ℕ
   pub request : ℕ
-  pub input : IsInput file words opening.name opening.memory program request
-  pub submitted : (submits list ≡ []) ⊎ (submits list ≡ (program, request) ∷ [])
-  pub closed : last_closes false list ≡ true → submits list ≡ (program, request) ∷ []
+  pub input : IsInputOf file config submit opening.name opening.memory program request
+  pub submitted : Submits program request list
+
+abbrev pub OfFilesFrom : (List ℕ → Option (List ℕ)) → List ℕ → List ℕ → Option Pool → List Step → Type 0
+OfFilesFrom file config submit None list = Unit {0}
+OfFilesFrom file config submit (Some opening) list = IsOfFiles file config submit opening list
+
+-- they are those of the files that the words name
+pub record IsOfInput (file : List ℕ → Option (List ℕ)) (words : List (List ℕ)) (opening : Pool) (list : List Step) : Type 0 where
+  pub config : List ℕ
+  pub submit : List ℕ
+  pub words_are : IsRun words config submit
+  pub files : IsOfFiles file config submit opening list
 
 abbrev pub OfInputFrom : (List ℕ → Option (List ℕ)) → List (List ℕ) → Option Pool → List Step → Type 0
 OfInputFrom file words None list = Unit {0}
@@ -87,3 +108,71 @@ pub record WritesAll (history : History) (old new : List ℕ) : Type 0 where
   pub text : List ℕ
   pub is_log : IsUserLog history text
   pub written : new ≡ old ++ text
+
+-- no pool was opened, and nothing has happened
+pub record HasNothing (history : History) : Type 0 where
+  pub no_opening : history.opening ≡ None
+  pub none : history.list ≡ []
+
+-- the run ended before its pool was opened, and said why
+abbrev pub EndsEarly : Status → Type 0
+EndsEarly status.Done = ⊥
+EndsEarly status.Usage = Unit {0}
+EndsEarly (status.Input file line kind) = Unit {0}
+EndsEarly status.Stuck = ⊥
+EndsEarly status.DiskFault = Unit {0}
+EndsEarly status.OutFault = ⊥
+EndsEarly status.Memory = ⊥
+EndsEarly (status.BadLog line) = ⊥
+EndsEarly (status.Limit which) = ⊥
+
+-- a status that comes of a pool without a queue log and without limits
+abbrev pub IsStatusToday : Status → Type 0
+IsStatusToday status.Done = Unit {0}
+IsStatusToday status.Usage = Unit {0}
+IsStatusToday (status.Input file line kind) = Unit {0}
+IsStatusToday status.Stuck = Unit {0}
+IsStatusToday status.DiskFault = Unit {0}
+IsStatusToday status.OutFault = Unit {0}
+IsStatusToday status.Memory = Unit {0}
+IsStatusToday (status.BadLog line) = ⊥
+IsStatusToday (status.Limit which) = ⊥
+
+-- what a pool's part of a run leaves, whatever its files are: its history beside the clock, the spawner and the sink, and the statuses
+-- that come of it
+pub record PoolRuns (allows : ℕ → Type 0) (tells : Bool) (launches : List Launch) (seen : ℕ → ChildState) (killed : ℕ → Bool) (spawn_before spawn_now : ℕ) (writes : Bool) (old new : List ℕ) (out_before out_now : ℕ) (s : Status) (history : History) : Type 0 where
+  pub replay : IsReplay history
+  pub safe : IsSafe history
+  pub follows : Follows allows tells launches seen killed spawn_before spawn_now history.list
+  pub all_launched : tells ≡ true → (left : Bool) → IsClosed history left → launches ≡ launches_of (started_runs history.list)
+  pub written : writes ≡ true → WritesPart history old new
+  pub all_written : writes ≡ true → (s ≡ status.Done) ⊎ ((s ≡ status.Stuck) ⊎ (s ≡ status.DiskFault)) → WritesAll history old new
+  pub done : s ≡ status.Done → IsClosed history false × (out_now ≡ out_before)
+  pub done_comes : IsClosed history false → ¬ Rose out_before out_now → (s ≡ status.Done) ⊎ (s ≡ status.Memory)
+  pub stuck : s ≡ status.Stuck → IsClosed history true × (out_now ≡ out_before)
+  pub stuck_comes : IsClosed history true → ¬ Rose out_before out_now → (s ≡ status.Stuck) ⊎ (s ≡ status.Memory)
+  pub out_fault : s ≡ status.OutFault → Rose out_before out_now × ((left : Bool) × IsClosed history left)
+
+-- a status that comes once the files were read
+abbrev pub IsLate : Status → Type 0
+IsLate status.Done = Unit {0}
+IsLate status.Usage = ⊥
+IsLate (status.Input file line kind) = ⊥
+IsLate status.Stuck = Unit {0}
+IsLate status.DiskFault = ⊥
+IsLate status.OutFault = Unit {0}
+IsLate status.Memory = Unit {0}
+IsLate (status.BadLog line) = ⊥
+IsLate (status.Limit which) = ⊥
+
+-- how a run ends whose pool was closed, with a job left or not, by the sink's count of faults before and after
+abbrev pub IsPrinted : Bool → ℕ → ℕ → Status → Type 0
+IsPrinted left before now status.Done = (left ≡ false) × (now ≡ before)
+IsPrinted left before now status.Usage = ⊥
+IsPrinted left before now (status.Input file line kind) = ⊥
+IsPrinted left before now status.Stuck = (left ≡ true) × (now ≡ before)
+IsPrinted left before now status.DiskFault = ⊥
+IsPrinted left before now status.OutFault = Rose before now
+IsPrinted left before now status.Memory = Unit {0}
+IsPrinted left before now (status.BadLog line) = ⊥
+IsPrinted left before now (status.Limit which) = ⊥

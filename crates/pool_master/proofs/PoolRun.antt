@@ -1,0 +1,177 @@
+-- What a pool's part of a run leaves: without a pool, and with one that was closed or not.
+use Rattle.std.proofs.Common.{◌≡◌, ◌≢◌, ◌∙◌, ◌⊎◌, inl, inr, ¬◌, ℕ, ◌≤◌, List, [], ◌∷◌, ◌++◌, length, take, Bool, true, false, Option, Some, None, refl, sym, ap, subst}
+use Rattle.std.proofs.lemmas.List.{append-nil}
+use Rattle.pool_outer.specs.declared.spawner.ChildState.{ChildState}
+use Rattle.pool_outer.specs.declared.spawner.Launch.{Launch}
+use Rattle.pool_outer.specs.Cause.{Rose}
+use Rattle.pool_core.specs.declared.history.History.{History}
+use Rattle.pool_core.specs.declared.history.Step.{Step}
+use Rattle.pool_core.specs.declared.pool.Pool.{Pool}
+use Rattle.pool_core.specs.Histories.{LeadsTo, IsHistory, Shows, submits, ends_in_close}
+use Rattle.pool_core.specs.Moving.{EachMoves}
+use Rattle.pool_core.specs.Reactions.{opening_pool, after}
+use Rattle.pool_master.specs.declared.status.Status.{Status}
+use Rattle.pool_master.specs.declared.status.Status.TheVariants as status
+use Rattle.pool_master.specs.Runs.{started_runs, launches_of}
+use Rattle.pool_master.specs.Follows.{Follows, IsBetween}
+use Rattle.pool_master.specs.UserLog.{IsLogOf, IsUserLog}
+use Rattle.pool_master.specs.Run.{pool_after, job_left, ClosesFrom, IsClosed, ReplaysFrom, IsReplay, IsSafeFrom, Submits, OfJobFrom, WritesPart, WritesAll, PoolRuns, HasNothing, IsPrinted}
+use Rattle.pool_master.proofs.Playing.{follows_none}
+use Rattle.pool_master.proofs.UserLogs.{same_log}
+
+-- a status that doesn't come of a pool that was closed
+abbrev pub IsNoEnd : Status → Type 0
+IsNoEnd status.Done = ⊥
+IsNoEnd status.Usage = Unit {0}
+IsNoEnd (status.Input file line kind) = Unit {0}
+IsNoEnd status.Stuck = ⊥
+IsNoEnd status.DiskFault = Unit {0}
+IsNoEnd status.OutFault = ⊥
+IsNoEnd status.Memory = Unit {0}
+IsNoEnd (status.BadLog line) = Unit {0}
+IsNoEnd (status.Limit which) = Unit {0}
+
+no_done : {A : Type 0} (s : Status) → IsNoEnd s → s ≡ status.Done → A
+no_done s no is = absurd (subst IsNoEnd is no)
+
+no_stuck : {A : Type 0} (s : Status) → IsNoEnd s → s ≡ status.Stuck → A
+no_stuck s no is = absurd (subst IsNoEnd is no)
+
+no_out_fault : {A : Type 0} (s : Status) → IsNoEnd s → s ≡ status.OutFault → A
+no_out_fault s no is = absurd (subst IsNoEnd is no)
+
+not_closed : {A : Type 0} (h : History) (left : Bool) → h.opening ≡ None → IsClosed h left → A
+not_closed h left none closed = absurd (subst (λ (o : Option Pool). ClosesFrom o h.list left) none closed)
+
+no_text : (h : History) (text : List ℕ) → h.opening ≡ None → IsUserLog h text → text ≡ []
+no_text h text none is = subst (λ (o : Option Pool). IsLogOf o h.list text) none is
+
+-- no pool was opened
+pub nothing_runs : (allows : ℕ → Type 0) (tells : Bool) (launches : List Launch) (seen : ℕ → ChildState) (killed : ℕ → Bool) (faults : ℕ) (writes : Bool) (old : List ℕ) (out : ℕ) (s : Status) (h : History) → HasNothing h → h.load ≡ false → IsNoEnd s → (tells ≡ true → length launches ≡ 0) → (tells ≡ true → (k : ℕ) → killed k ≡ false) → PoolRuns allows tells launches seen killed faults faults writes old old out out s h
+nothing_runs allows tells launches seen killed faults writes old out s h nothing load no idle spared = record {
+  replay = record { replays = rw nothing.no_opening nothing.none; no_load = load };
+  safe = rw nothing.no_opening tt;
+  follows = follows_none allows tells launches seen killed faults h.list idle spared nothing.none;
+  all_launched = λ told left closed. not_closed h left nothing.no_opening closed;
+  written = λ told text is. (0, rw (no_text h text nothing.no_opening is) (sym (append-nil old)));
+  all_written = λ told ends. record { text = []; is_log = rw nothing.no_opening refl; written = sym (append-nil old) };
+  done = λ is. no_done s no is;
+  done_comes = λ closed quiet. not_closed h false nothing.no_opening closed;
+  stuck = λ is. no_stuck s no is;
+  stuck_comes = λ closed quiet. not_closed h true nothing.no_opening closed;
+  out_fault = λ is. no_out_fault s no is;
+}
+
+-- a history leads to one pool
+pub leads_after : (p : Pool) (list : List Step) (q : Pool) → LeadsTo p list q → q ≡ pool_after p list
+leads_after p [] q leads = leads
+leads_after p (s ∷ ss) q leads = leads_after (after p s.event) ss q leads.1
+
+-- what is known of a history and the pool that it leads to
+pub record IsPlayed (h : History) (p : Pool) : Type 0 where
+  pub opening : Pool
+  pub opening_is : h.opening ≡ Some opening
+  pub opened : opening ≡ opening_pool opening.name opening.memory
+  pub no_load : h.load ≡ false
+  pub leads : LeadsTo opening h.list p
+  pub moves : EachMoves opening h.list
+  pub closed : p.closed ≡ ends_in_close h.list
+
+pub played : (name : List ℕ) (memory : ℕ) (h : History) (p : Pool) → IsHistory name memory h p → EachMoves (opening_pool name memory) h.list → Shows name memory h.list p → IsPlayed h p
+played name memory h p is moves shows = record { opening = opening_pool name memory; opening_is = is.opening; opened = refl; no_load = is.no_load; leads = is.leads; moves = moves; closed = shows.closed }
+
+pub played_replay : (h : History) (p : Pool) → IsPlayed h p → IsReplay h
+played_replay h p is = record {
+  replays = rw is.opening_is (is.opened, subst (λ (q : Pool). LeadsTo is.opening h.list q) (leads_after is.opening h.list p is.leads) is.leads);
+  no_load = is.no_load;
+}
+
+-- a history is closed where its pool is, with that pool's job left or not
+pub closes : (h : History) (p : Pool) → IsPlayed h p → p.closed ≡ true → IsClosed h (job_left p.job)
+closes h p is closed = rw is.opening_is (sym is.closed ∙ closed, ap (λ (q : Pool). job_left q.job) (sym (leads_after is.opening h.list p is.leads)))
+
+pub closed_so : (h : History) (p : Pool) (left : Bool) → IsPlayed h p → IsClosed h left → (p.closed ≡ true) × (job_left p.job ≡ left)
+closed_so h p left is closed =
+    let c = subst (λ (o : Option Pool). ClosesFrom o h.list left) is.opening_is closed in
+    (is.closed ∙ c.0, ap (λ (q : Pool). job_left q.job) (leads_after is.opening h.list p is.leads) ∙ c.1)
+
+-- How the run ended, by what was printed.
+
+done_of : (s : Status) (left : Bool) (before now : ℕ) (h : History) → IsPrinted left before now s → IsClosed h left → s ≡ status.Done → IsClosed h false × (now ≡ before)
+done_of s left before now h printed closed is =
+    let p = subst (IsPrinted left before now) is printed in
+    (subst (IsClosed h) p.0 closed, p.1)
+
+stuck_of : (s : Status) (left : Bool) (before now : ℕ) (h : History) → IsPrinted left before now s → IsClosed h left → s ≡ status.Stuck → IsClosed h true × (now ≡ before)
+stuck_of s left before now h printed closed is =
+    let p = subst (IsPrinted left before now) is printed in
+    (subst (IsClosed h) p.0 closed, p.1)
+
+out_fault_of : (s : Status) (left : Bool) (before now : ℕ) → IsPrinted left before now s → s ≡ status.OutFault → Rose before now
+out_fault_of s left before now printed is = subst (IsPrinted left before now) is printed
+
+done_comes_of : (s : Status) (left : Bool) (before now : ℕ) → IsPrinted left before now s → left ≡ false → ¬ Rose before now → (s ≡ status.Done) ⊎ (s ≡ status.Memory)
+done_comes_of status.Done left before now printed is quiet = inl refl
+done_comes_of status.Usage left before now printed is quiet = absurd printed
+done_comes_of (status.Input file line kind) left before now printed is quiet = absurd printed
+done_comes_of status.Stuck left before now printed is quiet = let clash : true ≡ false = sym printed.0 ∙ is in cc
+done_comes_of status.DiskFault left before now printed is quiet = absurd printed
+done_comes_of status.OutFault left before now printed is quiet = absurd (quiet printed)
+done_comes_of status.Memory left before now printed is quiet = inr refl
+done_comes_of (status.BadLog line) left before now printed is quiet = absurd printed
+done_comes_of (status.Limit which) left before now printed is quiet = absurd printed
+
+stuck_comes_of : (s : Status) (left : Bool) (before now : ℕ) → IsPrinted left before now s → left ≡ true → ¬ Rose before now → (s ≡ status.Stuck) ⊎ (s ≡ status.Memory)
+stuck_comes_of status.Done left before now printed is quiet = let clash : false ≡ true = sym printed.0 ∙ is in cc
+stuck_comes_of status.Usage left before now printed is quiet = absurd printed
+stuck_comes_of (status.Input file line kind) left before now printed is quiet = absurd printed
+stuck_comes_of status.Stuck left before now printed is quiet = inl refl
+stuck_comes_of status.DiskFault left before now printed is quiet = absurd printed
+stuck_comes_of status.OutFault left before now printed is quiet = absurd (quiet printed)
+stuck_comes_of status.Memory left before now printed is quiet = inr refl
+stuck_comes_of (status.BadLog line) left before now printed is quiet = absurd printed
+stuck_comes_of (status.Limit which) left before now printed is quiet = absurd printed
+
+no_disk_fault : (s : Status) (left : Bool) (before now : ℕ) → IsPrinted left before now s → (s ≡ status.Done) ⊎ ((s ≡ status.Stuck) ⊎ (s ≡ status.DiskFault)) → (s ≡ status.Done) ⊎ (s ≡ status.Stuck)
+no_disk_fault s left before now printed (inl is) = inl is
+no_disk_fault s left before now printed (inr (inl is)) = inr is
+no_disk_fault s left before now printed (inr (inr is)) = absurd (subst (IsPrinted left before now) is printed)
+
+-- the pool was closed, and its log was printed or not
+pub printed_runs : (allows : ℕ → Type 0) (tells : Bool) (launches : List Launch) (seen : ℕ → ChildState) (killed : ℕ → Bool) (spawn_before spawn_now : ℕ) (writes : Bool) (old new : List ℕ) (before now : ℕ) (s : Status) (h : History) (p : Pool) → IsPlayed h p → p.closed ≡ true → Follows allows tells launches seen killed spawn_before spawn_now h.list → IsBetween tells launches h.list → (writes ≡ true → WritesPart h old new) → (writes ≡ true → (s ≡ status.Done) ⊎ (s ≡ status.Stuck) → WritesAll h old new) → IsPrinted (job_left p.job) before now s → PoolRuns allows tells launches seen killed spawn_before spawn_now writes old new before now s h
+printed_runs allows tells launches seen killed spawn_before spawn_now writes old new before now s h p is closed follows between part whole printed = record {
+  replay = played_replay h p is;
+  safe = rw is.opening_is is.moves;
+  follows = follows;
+  all_launched = λ told left c. between.launched told;
+  written = part;
+  all_written = λ told ends. whole told (no_disk_fault s (job_left p.job) before now printed ends);
+  done = λ e. done_of s (job_left p.job) before now h printed (closes h p is closed) e;
+  done_comes = λ c quiet. done_comes_of s (job_left p.job) before now printed (closed_so h p false is c).1 quiet;
+  stuck = λ e. stuck_of s (job_left p.job) before now h printed (closes h p is closed) e;
+  stuck_comes = λ c quiet. stuck_comes_of s (job_left p.job) before now printed (closed_so h p true is c).1 quiet;
+  out_fault = λ e. (out_fault_of s (job_left p.job) before now printed e, (job_left p.job, closes h p is closed));
+}
+
+open_pool_clash : {A : Type 0} (h : History) (p : Pool) (left : Bool) → IsPlayed h p → p.closed ≢ true → IsClosed h left → A
+open_pool_clash h p left is open_ closed = absurd (open_ (closed_so h p left is closed).0)
+
+-- want of memory before the pool was closed
+pub open_runs : (allows : ℕ → Type 0) (tells : Bool) (launches : List Launch) (seen : ℕ → ChildState) (killed : ℕ → Bool) (spawn_before spawn_now : ℕ) (writes : Bool) (old : List ℕ) (out : ℕ) (h : History) (p : Pool) → IsPlayed h p → p.closed ≢ true → Follows allows tells launches seen killed spawn_before spawn_now h.list → PoolRuns allows tells launches seen killed spawn_before spawn_now writes old old out out status.Memory h
+open_runs allows tells launches seen killed spawn_before spawn_now writes old out h p is open_ follows = record {
+  replay = played_replay h p is;
+  safe = rw is.opening_is is.moves;
+  follows = follows;
+  all_launched = λ told left c. open_pool_clash h p left is open_ c;
+  written = λ told text log. (0, sym (append-nil old));
+  all_written = λ told ends. elim ends [ inl e ↦ cc | inr e ↦ elim e [ inl d ↦ cc | inr d ↦ cc ] ];
+  done = λ e. cc;
+  done_comes = λ c quiet. open_pool_clash h p false is open_ c;
+  stuck = λ e. cc;
+  stuck_comes = λ c quiet. open_pool_clash h p true is open_ c;
+  out_fault = λ e. cc;
+}
+
+-- A log that was made is the log: what was written of it is a front of the log.
+pub writes_part : (h : History) (made old new : List ℕ) → IsUserLog h made → (n : ℕ) × (new ≡ old ++ take n made) → WritesPart h old new
+writes_part h made old new is part text log = (part.0, part.1 ∙ ap (λ (t : List ℕ). old ++ take part.0 t) (same_log h.opening h.list made text is log))
