@@ -1,3 +1,5 @@
+pub mod FirstOf
+pub mod Refusals
 pub mod PoolRun
 pub mod Playing
 pub mod Pools

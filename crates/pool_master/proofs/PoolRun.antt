@@ -1,5 +1,5 @@
 -- What a pool's part of a run leaves: without a pool, and with one that was closed or not.
-use Rattle.std.proofs.Common.{◌≡◌, ◌≢◌, ◌∙◌, ◌⊎◌, inl, inr, ¬◌, ℕ, ◌≤◌, List, [], ◌∷◌, ◌++◌, length, take, Bool, true, false, Option, Some, None, refl, sym, ap, subst}
+use Rattle.std.proofs.Common.{◌≡◌, ◌≢◌, ◌∙◌, ◌⊎◌, inl, inr, ℕ, ◌≤◌, List, [], ◌∷◌, ◌++◌, length, take, codes, Bool, true, false, Option, Some, None, refl, sym, ap, subst}
 use Rattle.std.proofs.lemmas.List.{append-nil}
 use Rattle.pool_outer.specs.declared.spawner.ChildState.{ChildState}
 use Rattle.pool_outer.specs.declared.spawner.Launch.{Launch}
@@ -12,10 +12,13 @@ use Rattle.pool_core.specs.Moving.{EachMoves}
 use Rattle.pool_core.specs.Reactions.{opening_pool, after}
 use Rattle.pool_master.specs.declared.status.Status.{Status}
 use Rattle.pool_master.specs.declared.status.Status.TheVariants as status
+use Rattle.pool_master.specs.declared.status.Kind.{Kind}
+use Rattle.pool_master.specs.Input.{IsEarly, IsInputOf, IsRefusedOf, IsRefusedInput}
+use Rattle.pool_master.specs.Words.{IsRun}
 use Rattle.pool_master.specs.Runs.{started_runs, launches_of}
 use Rattle.pool_master.specs.Follows.{Follows, IsBetween}
 use Rattle.pool_master.specs.UserLog.{IsLogOf, IsUserLog}
-use Rattle.pool_master.specs.Run.{pool_after, job_left, ClosesFrom, IsClosed, ReplaysFrom, IsReplay, IsSafeFrom, Submits, OfJobFrom, WritesPart, WritesAll, PoolRuns, HasNothing, IsPrinted}
+use Rattle.pool_master.specs.Run.{pool_after, job_left, ClosesFrom, IsClosed, ReplaysFrom, IsReplay, IsSafeFrom, Submits, OfJobFrom, OfFilesFrom, OfInputFrom, WritesPart, WritesAll, PoolRuns, HasNothing, IsLate, IsPrinted}
 use Rattle.pool_master.proofs.Playing.{follows_none}
 use Rattle.pool_master.proofs.UserLogs.{same_log}
 
@@ -32,34 +35,31 @@ IsNoEnd (status.BadLog line) = Unit {0}
 IsNoEnd (status.Limit which) = Unit {0}
 
 no_done : {A : Type 0} (s : Status) → IsNoEnd s → s ≡ status.Done → A
-no_done s no is = absurd (subst IsNoEnd is no)
+no_done s early is = absurd (subst IsNoEnd is early)
 
 no_stuck : {A : Type 0} (s : Status) → IsNoEnd s → s ≡ status.Stuck → A
-no_stuck s no is = absurd (subst IsNoEnd is no)
+no_stuck s early is = absurd (subst IsNoEnd is early)
 
 no_out_fault : {A : Type 0} (s : Status) → IsNoEnd s → s ≡ status.OutFault → A
-no_out_fault s no is = absurd (subst IsNoEnd is no)
+no_out_fault s early is = absurd (subst IsNoEnd is early)
 
 not_closed : {A : Type 0} (h : History) (left : Bool) → h.opening ≡ None → IsClosed h left → A
 not_closed h left none closed = absurd (subst (λ (o : Option Pool). ClosesFrom o h.list left) none closed)
 
-no_text : (h : History) (text : List ℕ) → h.opening ≡ None → IsUserLog h text → text ≡ []
-no_text h text none is = subst (λ (o : Option Pool). IsLogOf o h.list text) none is
-
 -- no pool was opened
 pub nothing_runs : (allows : ℕ → Type 0) (tells : Bool) (launches : List Launch) (seen : ℕ → ChildState) (killed : ℕ → Bool) (faults : ℕ) (writes : Bool) (old : List ℕ) (out : ℕ) (s : Status) (h : History) → HasNothing h → h.load ≡ false → IsNoEnd s → (tells ≡ true → length launches ≡ 0) → (tells ≡ true → (k : ℕ) → killed k ≡ false) → PoolRuns allows tells launches seen killed faults faults writes old old out out s h
-nothing_runs allows tells launches seen killed faults writes old out s h nothing load no idle spared = record {
+nothing_runs allows tells launches seen killed faults writes old out s h nothing load early idle spared = record {
   replay = record { replays = rw nothing.no_opening nothing.none; no_load = load };
   safe = rw nothing.no_opening tt;
   follows = follows_none allows tells launches seen killed faults h.list idle spared nothing.none;
   all_launched = λ told left closed. not_closed h left nothing.no_opening closed;
-  written = λ told text is. (0, rw (no_text h text nothing.no_opening is) (sym (append-nil old)));
+  written = λ told text is. (0, sym (append-nil old));
   all_written = λ told ends. record { text = []; is_log = rw nothing.no_opening refl; written = sym (append-nil old) };
-  done = λ is. no_done s no is;
+  done = λ is. no_done s early is;
   done_comes = λ closed quiet. not_closed h false nothing.no_opening closed;
-  stuck = λ is. no_stuck s no is;
+  stuck = λ is. no_stuck s early is;
   stuck_comes = λ closed quiet. not_closed h true nothing.no_opening closed;
-  out_fault = λ is. no_out_fault s no is;
+  out_fault = λ is. no_out_fault s early is;
 }
 
 -- a history leads to one pool
@@ -77,8 +77,20 @@ pub record IsPlayed (h : History) (p : Pool) : Type 0 where
   pub moves : EachMoves opening h.list
   pub closed : p.closed ≡ ends_in_close h.list
 
-pub played : (name : List ℕ) (memory : ℕ) (h : History) (p : Pool) → IsHistory name memory h p → EachMoves (opening_pool name memory) h.list → Shows name memory h.list p → IsPlayed h p
-played name memory h p is moves shows = record { opening = opening_pool name memory; opening_is = is.opening; opened = refl; no_load = is.no_load; leads = is.leads; moves = moves; closed = shows.closed }
+pub played : (o : Pool) (list : List Step) (h : History) (p : Pool) → o ≡ opening_pool o.name o.memory → h.list ≡ list → IsHistory o.name o.memory h p → EachMoves o list → Shows o.name o.memory list p → IsPlayed h p
+played o list h p opened same is moves shows = record {
+  opening = o;
+  opening_is = is.opening ∙ ap Some (sym opened);
+  opened = opened;
+  no_load = is.no_load;
+  leads = subst (λ (q : Pool). LeadsTo q h.list p) (sym opened) is.leads;
+  moves = subst (λ (l : List Step). EachMoves o l) (sym same) moves;
+  closed = shows.closed ∙ ap ends_in_close (sym same);
+}
+
+-- its job is the one that was asked for
+pub played_job : (name : List ℕ) (memory : ℕ) (program : List ℕ) (request : ℕ) (o : Pool) (h : History) (p : Pool) → h.opening ≡ Some (opening_pool o.name o.memory) → o.name ≡ name → o.memory ≡ memory → p.closed ≡ ends_in_close h.list → (submits h.list ≡ []) ⊎ (submits h.list ≡ (program, request) ∷ []) → (p.closed ≡ true → submits h.list ≡ (program, request) ∷ []) → OfJobFrom name memory program request h.opening h.list
+played_job name memory program request o h p opening name_is memory_is ends partly closed = rw opening (record { name_is = name_is; memory_is = memory_is; submitted = record { partly = partly; closed = λ end. closed (ends ∙ end) } })
 
 pub played_replay : (h : History) (p : Pool) → IsPlayed h p → IsReplay h
 played_replay h p is = record {
@@ -175,3 +187,57 @@ open_runs allows tells launches seen killed spawn_before spawn_now writes old ou
 -- A log that was made is the log: what was written of it is a front of the log.
 pub writes_part : (h : History) (made old new : List ℕ) → IsUserLog h made → (n : ℕ) × (new ≡ old ++ take n made) → WritesPart h old new
 writes_part h made old new is part text log = (part.0, part.1 ∙ ap (λ (t : List ℕ). old ++ take part.0 t) (same_log h.opening h.list made text is log))
+
+take_all : (xs : List ℕ) → take (length xs) xs ≡ xs
+take_all [] = refl
+take_all (x ∷ xs) = ap (λ (t : List ℕ). x ∷ t) (take_all xs)
+
+pub writes_whole : (h : History) (made old new : List ℕ) → IsUserLog h made → new ≡ old ++ made → WritesPart h old new
+writes_whole h made old new is whole text log =
+    let same : made ≡ text = same_log h.opening h.list made text is log in
+    (length text, whole ∙ (ap (λ (t : List ℕ). old ++ t) same ∙ ap (λ (t : List ℕ). old ++ t) (sym (take_all text))))
+
+pub printed_late : (left : Bool) (before now : ℕ) (s : Status) → IsPrinted left before now s → IsLate s
+printed_late left before now status.Done printed = tt
+printed_late left before now status.Usage printed = absurd printed
+printed_late left before now (status.Input file line kind) printed = absurd printed
+printed_late left before now status.Stuck printed = tt
+printed_late left before now status.DiskFault printed = absurd printed
+printed_late left before now status.OutFault printed = tt
+printed_late left before now status.Memory printed = tt
+printed_late left before now (status.BadLog line) printed = absurd printed
+printed_late left before now (status.Limit which) printed = absurd printed
+
+pub early_no_end : (s : Status) → IsEarly s → IsNoEnd s
+early_no_end status.Done early = absurd early
+early_no_end status.Usage early = tt
+early_no_end (status.Input file line kind) early = tt
+early_no_end status.Stuck early = absurd early
+early_no_end status.DiskFault early = tt
+early_no_end status.OutFault early = absurd early
+early_no_end status.Memory early = tt
+early_no_end (status.BadLog line) early = tt
+early_no_end (status.Limit which) early = tt
+
+-- the machine and the job are those of the files
+pub job_of_files : (file : List ℕ → Option (List ℕ)) (config submit name : List ℕ) (memory : ℕ) (program : List ℕ) (request : ℕ) (opening : Option Pool) (list : List Step) → IsInputOf file config submit name memory program request → OfJobFrom name memory program request opening list → OfFilesFrom file config submit opening list
+job_of_files file config submit name memory program request None list input job = tt
+job_of_files file config submit name memory program request (Some p) list input job = record {
+  program = program;
+  request = request;
+  input = rw (job.name_is, job.memory_is) input;
+  submitted = job.submitted;
+}
+
+-- and the files are those that the words name
+pub files_of_input : (file : List ℕ → Option (List ℕ)) (words : List (List ℕ)) (config submit : List ℕ) (opening : Option Pool) (list : List Step) → IsRun words config submit → OfFilesFrom file config submit opening list → OfInputFrom file words opening list
+files_of_input file words config submit None list is files = tt
+files_of_input file words config submit (Some p) list is files = record { config = config; submit = submit; words_are = is; files = files }
+
+-- the words name one configuration and one submit file
+pub refused_input : (file : List ℕ → Option (List ℕ)) (words : List (List ℕ)) (config submit name : List ℕ) (number : ℕ) (kind : Kind) → IsRun words config submit → IsRefusedInput file words name number kind → IsRefusedOf file config submit name number kind
+refused_input file words config submit name number kind is refused =
+    let same : (codes "run" ∷ refused.config ∷ refused.submit ∷ []) ≡ (codes "run" ∷ config ∷ submit ∷ []) = sym refused.words_are.is ∙ is.is in
+    let one : refused.config ≡ config = cc in
+    let other : refused.submit ≡ submit = cc in
+    subst (λ (s : List ℕ). IsRefusedOf file config s name number kind) other (subst (λ (c : List ℕ). IsRefusedOf file c refused.submit name number kind) one refused.refused)

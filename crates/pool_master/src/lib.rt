@@ -3,6 +3,7 @@
 
 mod files;
 mod form;
+mod laws;
 mod load;
 mod output;
 mod play;
@@ -11,5 +12,6 @@ mod status;
 mod user_log;
 mod words;
 
+pub use laws::{first_bad_line_is_determined, user_log_is_determined};
 pub use run::{Ran, run_pool};
 pub use status::{Kind, Status};

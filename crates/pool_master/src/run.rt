@@ -224,9 +224,14 @@ fn load<D: Store>(
     ensures disk_fault { IfErr result (λ s. s ≡ Status.DiskFault → Rose (D.faults store.old) (D.faults store.new)) }
     ensures same { D.tells store.old ≡ true → SameFiles (D.file store.old) (D.file store.new) (D.solid store.old) (D.solid store.new) }
 {
-    let config = load_config(alloc, store, named.config)?;
-    let file = load_submit(alloc, store, named.submit)?;
-    Ok((config, file))
+    let config = match load_config(alloc, store, named.config) {
+        Ok(config) => config,
+        Err(status) => return Err(status),
+    };
+    match load_submit(alloc, store, named.submit) {
+        Ok(file) => Ok((config, file)),
+        Err(status) => Err(status),
+    }
 }
 
 // Writes the user log of a history, and says how the run ended whose pool was closed so.

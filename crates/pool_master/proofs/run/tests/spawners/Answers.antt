@@ -1,0 +1,9 @@
+use Rattle.std.proofs.Common.{◌≡◌, length, arith, length-append, ◌∷◌, []}
+use Rattle.std.proofs.lemmas.List.Elements.{All-push}
+use Rattle.pool_master.proofs.run.tests.spawners.Goals as goal
+
+pub machines-preserved : goal.machines-preserved
+machines-preserved c =
+    let inv = c.machines.invariant in
+    rw c.in_ok-push.ensures.items
+    ((let len = length-append c.machines.spawners.items (c.in_ok-push-arg ∷ []) in omega (arith, len, inv.0)), ?)

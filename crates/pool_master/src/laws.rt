@@ -1,0 +1,16 @@
+//! What holds of every history.
+
+ghost use Rattle.std.specs.Prelude.{◌≡◌, ℕ, List};
+ghost use Rattle.pool_core.specs.declared.history.History.{History};
+ghost use Rattle.pool_master.specs.Forms.{Line, LineForm, IsFirstBad};
+ghost use Rattle.pool_master.specs.UserLog.{IsUserLog};
+
+/// A history has one user log.
+pub fn user_log_is_determined()
+    ensures { (history : History) (one other : List ℕ) → IsUserLog history one → IsUserLog history other → one ≡ other }
+{}
+
+/// A file has one first bad line.
+pub fn first_bad_line_is_determined()
+    ensures { (forms : List LineForm) (lines : List Line) (one other : ℕ) → IsFirstBad forms lines one → IsFirstBad forms lines other → one ≡ other }
+{}
