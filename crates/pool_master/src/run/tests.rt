@@ -101,7 +101,8 @@ fn spawners(alloc: Global, case: &Case) -> Result<Vec<MemSpawner>, Fail>
 {
     let mut spawners = Vec::new(alloc);
     'machines: for _machine in 0..64usize {
-        spawners.push(spawner(alloc, case)?)?;
+        let idle = spawner(alloc, case)?;
+        spawners.push(idle)?;
     }
     Ok(spawners)
 }
