@@ -1,0 +1,8 @@
+//! Expressions as trees, and ads: attributes in order, found by their names without ASCII case.
+#![tactic(auto)]
+
+mod operator;
+mod tree;
+
+pub use operator::{BinOp, Scope, UnOp};
+pub use tree::{Expr, ExprList, Rest, RestList};
