@@ -1,10 +1,11 @@
 -- Ads as lists: what a change leaves, and how the entries of a table show them.
-use Rattle.std.proofs.Common.{◌≡◌, ℕ, suc, ◌+◌, ◌≤◌, Bool, true, false, true≢false, cond, List, [], ◌∷◌, ◌++◌, length, map, Option, Some, None, is_some, IsTrue, refl, ap, sym, ◌∙◌, subst, append_assoc, arith, not, ⊎_elim, IsSome}
+use Rattle.std.proofs.Common.{◌≡◌, ℕ, suc, ◌+◌, ◌≤◌, Bool, true, false, true≢false, cond, List, [], ◌∷◌, ◌++◌, length, map, Option, Some, None, is_some, IsTrue, refl, ap, sym, ◌∙◌, subst, append_assoc, arith, not, ⊎_elim, IsSome, position}
 use Rattle.std.proofs.lemmas.Bool.{cases_lt}
 use Rattle.std.specs.Borrow.{Bor}
 use Rattle.std.specs.Option.{option_map, option_copied}
 use Rattle.std.specs.Map as table
-use Rattle.indexmap.specs.IndexMap.{insert_entry, shift_remove_entry}
+use Rattle.indexmap.specs.IndexMap.{insert_entry, shift_remove_entry, set_value_at}
+use Rattle.indexmap.proofs.MapLemmas.{insert_entry-first, Found-position}
 use Rattle.ad_tree.specs.declared.tree.Expr.{Expr}
 use Rattle.ad_tree.specs.Tree.{Tree, tree}
 use Rattle.ad_tree.specs.Name.{same_name}
@@ -27,6 +28,11 @@ named_trees-insert_entry (a ∷ es) x e = by (same_name x a.0) (named_trees-inse
     by : (b : Bool) → named_trees (insert_entry same_name es x e) ≡ with_attribute x (tree e) (named_trees es) → named_trees (cond b ((a.0, e) ∷ es) (a ∷ insert_entry same_name es x e)) ≡ cond b ((a.0, tree e) ∷ named_trees es) ((a.0, tree a.1) ∷ with_attribute x (tree e) (named_trees es))
     by true rest = refl
     by false rest = ap (λ l. (a.0, tree a.1) ∷ l) rest
+
+-- a write at the place of a name
+pub named_trees-set_value_at : (x : List ℕ) (e : Expr) (es : List (List ℕ × Expr)) (i : ℕ) → position (same_name x) (map (λ a. a.0) es) ≡ Some i → named_trees (set_value_at es i e) ≡ with_attribute x (tree e) (named_trees es)
+named_trees-set_value_at x e es i at =
+    sym (ap named_trees (insert_entry-first same_name x e es i (Found-position (same_name x) es i at).first)) ∙ named_trees-insert_entry es x e
 
 pub named_trees-shift_remove_entry : (x : List ℕ) (es : List (List ℕ × Expr)) → named_trees (shift_remove_entry (same_name x) es) ≡ without x (named_trees es)
 named_trees-shift_remove_entry x [] = refl

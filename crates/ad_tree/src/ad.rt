@@ -151,6 +151,10 @@ fn put(
     ensures ok { OnOk result (named_trees attributes.new.entries ≡ with_attribute name.now (tree expr) (named_trees attributes.old.entries)) }
     ensures err { OnErr result (attributes.new.entries ≡ attributes.old.entries) }
 {
+    if let Some(place) = attributes.get_index_of(Asked(name)) {
+        attributes[place] = expr;
+        return Ok(());
+    }
     let name = Name::new(alloc, name)?;
     attributes.insert(name, expr)?;
     Ok(())
