@@ -8,6 +8,7 @@ use crate::tree::Expr;
 use ad_value::{Copied, Memory, Seq};
 use indexmap::IndexMap;
 use std::alloc::Global;
+use std::fmt;
 use std::marker::Model;
 use thiserror::Error;
 
@@ -158,6 +159,16 @@ fn put(
     let name = Name::new(alloc, name)?;
     attributes.insert(name, expr)?;
     Ok(())
+}
+
+impl fmt::Debug for Ad {
+    fn fmt<W: fmt::Write>(&self, f: &mut fmt::Formatter<W>) -> fmt::Result {
+        let mut shown = f.debug_map();
+        for (name, expr) in &self.attributes {
+            shown.entry(name, expr);
+        }
+        shown.finish()
+    }
 }
 
 impl Copied for Ad {
