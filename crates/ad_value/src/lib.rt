@@ -1,10 +1,19 @@
-//! The small data that every other crate speaks of: texts, and lists that contracts see as lists.
+//! The small data that every other crate speaks of: values, texts, and lists that contracts see as lists.
 #![tactic(auto)]
 
+mod literal;
 mod memory;
+mod order;
 mod seq;
+#[cfg(test)]
+mod tests;
 mod text;
+mod user_number;
+mod value;
 
 pub use memory::Memory;
+pub use order::{Order, fold_eq};
 pub use seq::{Copied, Seq};
 pub use text::{Text, TextList};
+pub use user_number::{UserNumber, UserNumberList};
+pub use value::{Value, ValueList};

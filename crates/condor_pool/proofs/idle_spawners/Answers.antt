@@ -6,4 +6,4 @@ pub machines-preserved : goal.machines-preserved
 machines-preserved g c =
     let inv = c.machines.invariant in
     rw c.in_ok-push.ensures.items
-      ((let len = length-append c.machines.spawners.items (c.new.result ∷ []) in omega (arith, len, inv.0)), All-push (λ s. length s.children.items ≡ 0) c.machines.spawners.items c.new.result inv.1 c.new.ensures.idle)
+    ((let len = length-append c.machines.spawners.items (c.new.result ∷ []) in omega (arith, len, inv.0)), All-push (λ s. length s.children.items ≡ 0) c.machines.spawners.items c.new.result inv.1 c.new.ensures.idle)

@@ -1,0 +1,3 @@
+pub mod TreeLemmas
+mod NameLemmas
+pub mod AdLemmas

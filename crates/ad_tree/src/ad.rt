@@ -1,0 +1,182 @@
+ghost use Rattle.std.specs.Prelude.{◌≡◌, ◌↔◌, ◌<◌, ◌≤◌, [], length, slice_get, None, IsSome, IsTrue, OnOk, OnErr, IsErrOf};
+ghost use Rattle.std.specs.Option.{option_map};
+ghost use Rattle.ad_tree.specs.Ad.{named_trees, with_attribute};
+ghost use Rattle.ad_tree.specs.Tree.{tree};
+
+use crate::name::{Asked, Name};
+use crate::tree::Expr;
+use ad_value::{Copied, Memory, Seq};
+use indexmap::IndexMap;
+use std::alloc::Global;
+use std::fmt;
+use std::marker::Model;
+use thiserror::Error;
+
+/// How many attributes an ad may have.
+pub const MAX_ATTRIBUTES: usize = 256;
+
+/// An ad: attributes in the order in which their names came. Names are equal without ASCII case, and contracts see the list of
+/// names and expressions.
+#[derive(Drop)]
+pub struct Ad {
+    attributes: IndexMap<Name, Expr>,
+}
+
+/// A list of ads.
+pub type AdList = Seq<Ad>;
+
+/// Why an attribute was not set.
+#[derive(Clone, Copy, Debug, PartialEq, Eq, Error)]
+pub enum SetError {
+    #[error("the ad has 256 attributes")]
+    Full,
+    #[error("out of memory")]
+    Memory,
+}
+
+impl From<Memory> for SetError {
+    ghost use Rattle.std.specs.Prelude.{◌≡◌};
+    ghost use Rattle.ad_tree.specs.declared.ad.SetError.TheVariants as error;
+
+    ghost from_gives = { λ _ e. e ≡ error.Memory };
+
+    fn from(_: Memory) -> SetError {
+        SetError::Memory
+    }
+}
+
+impl Model for Ad {
+    ghost use Rattle.std.specs.Prelude.{List, ℕ, length, ◌≤◌};
+    ghost use Rattle.std.specs.Coded.{coded_list, coded×, coded_ℕ};
+    ghost use Rattle.ad_tree.specs.Tree.{Tree};
+    ghost use Rattle.ad_tree.specs.TreeCode.{tree_code};
+
+    ghost Value = { List (List ℕ × Tree) };
+
+    ghost coded = { coded_list (coded× (coded_list coded_ℕ) tree_code) };
+
+    ghost use Rattle.ad_tree.specs.Ad.{named_trees, AreDistinct};
+
+    ghost view = { λ a. named_trees a.attributes.entries };
+
+    ghost invariant = { λ a. AreDistinct (named_trees a.attributes.entries) × (length a.attributes.entries ≤ 256) };
+}
+
+impl Ad {
+    ghost use Rattle.ad_tree.specs.Ad.{lookup, place_of, with_attribute, without, AreDistinct};
+    ghost use Rattle.ad_tree.specs.Tree.{tree};
+
+    /// An ad without attributes, which takes no memory.
+    pub fn new(alloc: Global) -> Ad
+        ensures { result ≡ [] }
+    {
+        Ad {
+            attributes: IndexMap::new(alloc),
+        }
+    }
+
+    /// How many attributes there are.
+    pub fn len(&self) -> usize
+        ensures len { result ≡ length self.now }
+        ensures within { result ≤ 256 }
+        ensures distinct { AreDistinct self.now }
+    {
+        self.attributes.len()
+    }
+
+    pub fn is_empty(&self) -> bool
+        ensures { IsTrue result ↔ (self.now ≡ []) }
+    {
+        self.attributes.is_empty()
+    }
+
+    /// The expression under a name, in time that does not grow with the ad, and without memory.
+    pub fn get(&self, name: &str) -> Option<&Expr>
+        ensures { option_map (λ e. tree e.now) result ≡ lookup name.now self.now }
+    {
+        self.attributes.get(Asked(name))
+    }
+
+    /// The place of a name, in time that does not grow with the ad, and without memory.
+    pub fn place(&self, name: &str) -> Option<usize>
+        ensures { result ≡ place_of name.now self.now }
+    {
+        self.attributes.get_index_of(Asked(name))
+    }
+
+    /// The name and the expression at a place, in constant time.
+    pub fn attribute(&self, place: usize) -> Option<(&str, &Expr)>
+        ensures { option_map (λ a. (a.0.now, tree a.1.now)) result ≡ slice_get self.now place }
+    {
+        let (name, expr) = self.attributes.get_index(place)?;
+        Some((name.as_str(), expr))
+    }
+
+    /// Whether `set` would refuse the name as one too many.
+    pub fn is_full_for(&self, name: &str) -> bool
+        ensures { IsTrue result ↔ ((lookup name.now self.now ≡ None) × (length self.now ≡ 256)) }
+    {
+        self.attributes.len() == MAX_ATTRIBUTES && !self.attributes.contains_key(Asked(name))
+    }
+
+    /// Puts an expression under a name, in time that does not grow with the ad. A name that is there keeps its place and spelling,
+    /// and a new one comes last.
+    pub fn set(&mut self, alloc: Global, name: &str, expr: Expr) -> Result<(), SetError>
+        ensures ok { OnOk result (self.new ≡ with_attribute name.now (tree expr) self.old) }
+        ensures full { IsErrOf result SetError.Full ↔ ((lookup name.now self.old ≡ None) × (length self.old ≡ 256)) }
+        ensures err { OnErr result (self.new ≡ self.old) }
+    {
+        if self.is_full_for(name) {
+            return Err(SetError::Full);
+        }
+        put(&mut self.attributes, alloc, name, expr)?;
+        Ok(())
+    }
+
+    /// Takes a name out, if it is there; the rest keeps its order. The time grows with the number of attributes behind it, and no
+    /// memory is taken.
+    pub fn remove(&mut self, name: &str) -> bool
+        ensures found { IsTrue result ↔ IsSome (lookup name.now self.old) }
+        ensures rest { self.new ≡ without name.now self.old }
+    {
+        self.attributes.shift_remove(Asked(name)).is_some()
+    }
+}
+
+fn put(
+    attributes: &mut IndexMap<Name, Expr>,
+    alloc: Global,
+    name: &str,
+    expr: Expr,
+) -> Result<(), Memory>
+    ensures ok { OnOk result (named_trees attributes.new.entries ≡ with_attribute name.now (tree expr) (named_trees attributes.old.entries)) }
+    ensures err { OnErr result (attributes.new.entries ≡ attributes.old.entries) }
+{
+    if let Some(place) = attributes.get_index_of(Asked(name)) {
+        attributes[place] = expr;
+        return Ok(());
+    }
+    let name = Name::new(alloc, name)?;
+    attributes.insert(name, expr)?;
+    Ok(())
+}
+
+impl fmt::Debug for Ad {
+    fn fmt<W: fmt::Write>(&self, f: &mut fmt::Formatter<W>) -> fmt::Result {
+        let mut shown = f.debug_map();
+        for (name, expr) in &self.attributes {
+            shown.entry(name, expr);
+        }
+        shown.finish()
+    }
+}
+
+impl Copied for Ad {
+    fn copy(&self, alloc: Global) -> Result<Ad, Memory> {
+        let mut attributes = IndexMap::new(alloc);
+        for (name, expr) in &self.attributes {
+            put(&mut attributes, alloc, name.as_str(), expr.copy(alloc)?)?;
+        }
+        Ok(Ad { attributes })
+    }
+}

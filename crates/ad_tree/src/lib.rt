@@ -1,0 +1,13 @@
+//! Expressions as trees, and ads: attributes in order, found by their names without ASCII case.
+#![tactic(auto)]
+
+mod ad;
+mod name;
+mod operator;
+#[cfg(test)]
+mod tests;
+mod tree;
+
+pub use ad::{Ad, AdList, MAX_ATTRIBUTES, SetError};
+pub use operator::{BinOp, Scope, UnOp};
+pub use tree::{Expr, ExprList, Rest, RestList};

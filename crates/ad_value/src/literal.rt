@@ -1,0 +1,95 @@
+ghost use Rattle.std.specs.Prelude.{◌≡◌, ◌++◌, IfOk, OnOk, string_bytes, encode_utf8};
+ghost use Rattle.std.specs.List.{flat_map};
+ghost use Rattle.ad_value.specs.Content.{content, contents, contents_of};
+ghost use Rattle.ad_value.specs.Literal.{literal, literals, separator, integer_text, quoted, escaped};
+
+use crate::memory::Memory;
+use crate::text::Text;
+use crate::value::{Value, ValueList};
+use itoa::Buffer;
+use std::alloc::Global;
+
+impl Value {
+    /// The literal in an expression's canonical text. The least integer has none of its own and is written
+    /// `-9223372036854775807 - 1`.
+    pub fn text(&self, alloc: Global) -> Result<Text, Memory>
+        ensures { IfOk result (λ t. t ≡ literal (content self.now)) }
+    {
+        let mut text = String::new(alloc);
+        self.write(&mut text)?;
+        Ok(Text::from(text))
+    }
+
+    #[cycle(write)]
+    fn write(&self, text: &mut String) -> Result<(), Memory>
+        ensures { OnOk result (string_bytes text.new ≡ string_bytes text.old ++ literal (content self.now)) }
+    {
+        match self {
+            Value::Undefined => Ok(text.push_str("UNDEFINED")?),
+            Value::Error => Ok(text.push_str("ERROR")?),
+            Value::Bool(true) => Ok(text.push_str("TRUE")?),
+            Value::Bool(false) => Ok(text.push_str("FALSE")?),
+            Value::Int(n) => write_integer(text, *n),
+            Value::Str(s) => write_quoted(text, s.as_str()),
+            Value::List(list) => {
+                text.push_str("{")?;
+                list.write(text)?;
+                Ok(text.push_str("}")?)
+            }
+        }
+    }
+}
+
+impl ValueList {
+    #[cycle(write)]
+    fn write(&self, text: &mut String) -> Result<(), Memory>
+        ensures { OnOk result (string_bytes text.new ≡ string_bytes text.old ++ literals (contents_of (contents self.now))) }
+    {
+        for (i, item) in self.items.iter().enumerate() {
+            write_separator(text, i)?;
+            item.write(text)?;
+        }
+        Ok(())
+    }
+}
+
+// What stands before the item at a place.
+fn write_separator(text: &mut String, i: usize) -> Result<(), Memory>
+    ensures { OnOk result (string_bytes text.new ≡ string_bytes text.old ++ separator i) }
+{
+    if i == 0 {
+        return Ok(());
+    }
+    Ok(text.push_str(", ")?)
+}
+
+fn write_integer(text: &mut String, n: i64) -> Result<(), Memory>
+    ensures { OnOk result (string_bytes text.new ≡ string_bytes text.old ++ integer_text n) }
+{
+    if n == i64::MIN {
+        return Ok(text.push_str("-9223372036854775807 - 1")?);
+    }
+    let mut buffer = Buffer::new();
+    Ok(text.push_str(buffer.format(n))?)
+}
+
+fn write_quoted(text: &mut String, s: &str) -> Result<(), Memory>
+    ensures { OnOk result (string_bytes text.new ≡ string_bytes text.old ++ quoted s.now) }
+{
+    text.push('"')?;
+    for c in s.chars() {
+        write_escaped(text, c)?;
+    }
+    Ok(text.push('"')?)
+}
+
+#[tactic(auto, using(crate::proofs::LiteralLemmas::escapes))]
+fn write_escaped(text: &mut String, c: char) -> Result<(), Memory>
+    ensures { OnOk result (string_bytes text.new ≡ string_bytes text.old ++ flat_map escaped (encode_utf8 c)) }
+{
+    match c {
+        '"' => Ok(text.push_str("\\\"")?),
+        '\\' => Ok(text.push_str("\\\\")?),
+        _ => Ok(text.push(c)?),
+    }
+}

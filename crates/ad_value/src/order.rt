@@ -1,0 +1,74 @@
+ghost use Rattle.std.specs.Prelude.{◌≡◌, ◌↔◌, IfOk, IsTrue};
+ghost use Rattle.ad_value.specs.Content.{content};
+ghost use Rattle.ad_value.specs.Order.{order_of, number_order, text_order, folded};
+
+use crate::memory::Memory;
+use crate::value::Value;
+use std::alloc::Global;
+use std::cmp::Ordering;
+
+/// How a value stands to another one under `==`, `<` and their kin.
+#[derive(Clone, Copy, Debug, PartialEq, Eq)]
+pub enum Order {
+    Less,
+    Equal,
+    Greater,
+    /// One of them is undefined.
+    Undefined,
+    /// One of them is an error or a list, or a string stands against a number.
+    Error,
+}
+
+impl Value {
+    /// How the value stands to another one. A truth value counts 1 or 0, and texts compare by the bytes of their folded texts.
+    /// That an error, a list, or a string against a number counts before an undefined value is this project's own choice.
+    pub fn order(&self, alloc: Global, other: &Value) -> Result<Order, Memory>
+        ensures { IfOk result (λ o. o ≡ order_of (content self.now) (content other.now)) }
+    {
+        match (self, other) {
+            (Value::Error | Value::List(_), _) | (_, Value::Error | Value::List(_)) => {
+                Ok(Order::Error)
+            }
+            (Value::Undefined, _) | (_, Value::Undefined) => Ok(Order::Undefined),
+            (Value::Str(a), Value::Str(b)) => order_texts(alloc, a.as_str(), b.as_str()),
+            (Value::Str(_), _) | (_, Value::Str(_)) => Ok(Order::Error),
+            (Value::Bool(a), Value::Bool(b)) => Ok(order_numbers(i64::from(*a), i64::from(*b))),
+            (Value::Bool(a), Value::Int(b)) => Ok(order_numbers(i64::from(*a), *b)),
+            (Value::Int(a), Value::Bool(b)) => Ok(order_numbers(*a, i64::from(*b))),
+            (Value::Int(a), Value::Int(b)) => Ok(order_numbers(*a, *b)),
+        }
+    }
+}
+
+fn order_numbers(a: i64, b: i64) -> Order
+    ensures { result ≡ number_order a b }
+{
+    if a < b {
+        Order::Less
+    } else if a == b {
+        Order::Equal
+    } else {
+        Order::Greater
+    }
+}
+
+fn order_texts(alloc: Global, a: &str, b: &str) -> Result<Order, Memory>
+    ensures { IfOk result (λ o. o ≡ text_order a.now b.now) }
+{
+    let a = caseless::default_case_fold_str(alloc, a)?;
+    let b = caseless::default_case_fold_str(alloc, b)?;
+    Ok(match a.as_str().cmp(b.as_str()) {
+        Ordering::Less => Order::Less,
+        Ordering::Equal => Order::Equal,
+        Ordering::Greater => Order::Greater,
+    })
+}
+
+/// Whether two texts are equal after default case folding (The Unicode Standard, section 3.13).
+pub fn fold_eq(alloc: Global, a: &str, b: &str) -> Result<bool, Memory>
+    ensures { IfOk result (λ same. IsTrue same ↔ (folded a.now ≡ folded b.now)) }
+{
+    let a = caseless::default_case_fold_str(alloc, a)?;
+    let b = caseless::default_case_fold_str(alloc, b)?;
+    Ok(a.as_str() == b.as_str())
+}
