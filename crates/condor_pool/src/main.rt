@@ -48,7 +48,8 @@ fn main(rt: HostRuntime) -> io::Result<ExitCode> {
     if let Ok(line) = status.line(alloc)
         && !line.is_empty()
     {
-        eprintln!(rt; "{line}")?;
+        // A line that cannot be printed leaves the status as it is.
+        let _ = eprintln!(rt; "{line}");
     }
     Ok(ExitCode::from(status.number()))
 }
@@ -88,6 +89,7 @@ fn command(alloc: Global) -> Result<Command<'static>, AllocError> {
     Command::new(alloc, "condor_pool")
         .version(VERSION)
         .about("An HTCondor pool in one process")
+        .override_usage("condor_pool run CONFIG SUBMIT")
         .disable_help_subcommand(true)
         .subcommand(run)
 }

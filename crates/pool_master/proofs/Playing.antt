@@ -1,6 +1,5 @@
 -- A history that grows by a step still follows the clock and the spawner.
-use Rattle.std.proofs.Common.{◌≡◌, ◌≢◌, ◌∙◌, ◌⊎◌, inl, inr, ℕ, zero, suc, ◌+◌, ◌-◌, ◌^◌, ◌≤◌, ◌<◌, min, List, [], ◌∷◌, ◌++◌, length, Bool, true, false, Option, Some, None, All, refl, sym, ap, subst, arith, slice_get}
-use Rattle.std.proofs.lemmas.Grind.{common_steps}
+use Rattle.std.proofs.Common.{◌≡◌, ◌≢◌, ◌∙◌, inl, inr, ℕ, zero, suc, ◌+◌, ◌≤◌, ◌<◌, List, [], ◌∷◌, ◌++◌, length, Bool, true, false, Some, refl, sym, ap, arith}
 use Rattle.std.proofs.lemmas.List.{append-nil}
 use Rattle.std.proofs.lemmas.List.Elements.{All-push}
 use Rattle.std.proofs.lemmas.List.Sums.{sum_by-append}
@@ -12,7 +11,6 @@ use Rattle.pool_outer.specs.Cause.{Rose, RoseBy}
 use Rattle.pool_core.specs.declared.answer.Kept.TheVariants as kept
 use Rattle.pool_core.specs.declared.event.End.{End}
 use Rattle.pool_core.specs.declared.event.End.TheVariants.{Exited, Signalled, NotStarted}
-use Rattle.pool_core.specs.declared.event.Event.{Event}
 use Rattle.pool_core.specs.declared.event.Event.TheVariants.{Submit, Start, Ended, Close}
 use Rattle.pool_core.specs.declared.history.Step.{Step}
 use Rattle.pool_core.specs.Events.{reading_of}
@@ -20,7 +18,7 @@ use Rattle.pool_core.specs.declared.memory_match.MemoryMatch.{MemoryMatch}
 use Rattle.pool_core.specs.CourseValue.{CourseValue}
 use Rattle.pool_core.specs.Histories.{ends, end_in, submits, submit_in}
 use Rattle.pool_master.specs.Runs.{Run, ended_by, on_behind, on_run, when_started, started, started_runs, is_not_started, not_started_count, launches_of, LaunchedBy, state_of, EndAsSeen}
-use Rattle.pool_master.specs.Follows.{AreRead, Serves, Follows, IsBetween, Happens}
+use Rattle.pool_master.specs.Follows.{AreRead, Follows, IsBetween, Happens}
 use Rattle.pool_master.proofs.RunLists.{submits-more, ends-more, on_run-more, started_runs-more, launches_of-append}
 
 pub read_more : (allows : ℕ → Type 0) (list : List Step) (s : Step) → AreRead allows list → allows (reading_of s.event) → reading_of s.event ≤ 253402207200 → AreRead allows (list ++ s ∷ [])

@@ -1,5 +1,5 @@
 -- What a pool's part of a run leaves: without a pool, and with one that was closed or not.
-use Rattle.std.proofs.Common.{◌≡◌, ◌≢◌, ◌∙◌, ◌⊎◌, inl, inr, ℕ, ◌≤◌, List, [], ◌∷◌, ◌++◌, length, take, codes, Bool, true, false, Option, Some, None, refl, sym, ap, subst}
+use Rattle.std.proofs.Common.{◌≡◌, ◌≢◌, ◌∙◌, ◌⊎◌, inl, inr, ℕ, List, [], ◌∷◌, ◌++◌, length, take, codes, Bool, true, false, Option, Some, None, refl, sym, ap, subst}
 use Rattle.std.proofs.lemmas.List.{append-nil}
 use Rattle.pool_outer.specs.declared.spawner.ChildState.{ChildState}
 use Rattle.pool_outer.specs.declared.spawner.Launch.{Launch}
@@ -15,10 +15,9 @@ use Rattle.pool_master.specs.declared.status.Status.TheVariants as status
 use Rattle.pool_master.specs.declared.status.Kind.{Kind}
 use Rattle.pool_master.specs.Input.{IsEarly, IsInputOf, IsRefusedOf, IsRefusedInput}
 use Rattle.pool_master.specs.Words.{IsRun}
-use Rattle.pool_master.specs.Runs.{started_runs, launches_of}
 use Rattle.pool_master.specs.Follows.{Follows, IsBetween}
-use Rattle.pool_master.specs.UserLog.{IsLogOf, IsUserLog}
-use Rattle.pool_master.specs.Run.{pool_after, job_left, ClosesFrom, IsClosed, ReplaysFrom, IsReplay, IsSafeFrom, Submits, OfJobFrom, OfFilesFrom, OfInputFrom, WritesPart, WritesAll, PoolRuns, HasNothing, IsLate, IsPrinted}
+use Rattle.pool_master.specs.UserLog.{IsUserLog}
+use Rattle.pool_master.specs.Run.{pool_after, job_left, ClosesFrom, IsClosed, IsReplay, OfJobFrom, OfFilesFrom, OfInputFrom, WritesPart, WritesAll, PoolRuns, HasNothing, IsLate, IsPrinted}
 use Rattle.pool_master.proofs.Playing.{follows_none}
 use Rattle.pool_master.proofs.UserLogs.{same_log}
 

@@ -1,5 +1,5 @@
 -- What a pool accepts, once it has accepted a start.
-use Rattle.std.proofs.Common.{◌≡◌, ◌≢◌, ℕ, Bool, true, false, Option, Some, None, eq-eqb, List, ◌<◌, ◌==◌, ◌&&◌, refl, if◌then◌else◌}
+use Rattle.std.proofs.Common.{◌≡◌, ℕ, Bool, true, false, Option, Some, None, eq-eqb, List, ◌<◌, ◌==◌, ◌&&◌, refl, if◌then◌else◌}
 use Rattle.std.proofs.lemmas.Bool.{lt-ltb}
 use Rattle.pool_core.specs.declared.answer.StepError.{StepError}
 use Rattle.pool_core.specs.declared.answer.StepError.TheVariants.{Closed, Occupied, AdMoved}

@@ -1,11 +1,11 @@
 -- A file that is refused isn't accepted, and is refused in one way.
-use Rattle.std.proofs.Common.{◌≡◌, ◌≢◌, ◌∙◌, ◌⊎◌, inl, inr, ℕ, zero, suc, ◌+◌, ◌<◌, ◌≤◌, List, [], ◌∷◌, length, decimal, codes, Bool, true, false, Option, Some, None, refl, sym, ap, subst, arith, slice_get}
+use Rattle.std.proofs.Common.{◌≡◌, ◌∙◌, ◌⊎◌, inl, inr, ℕ, zero, suc, ◌+◌, ◌<◌, ◌≤◌, List, length, decimal, Option, Some, None, refl, sym, ap, subst, arith, slice_get}
 use Rattle.std.proofs.lemmas.Bool.{cases_order}
 use Rattle.pool_master.specs.declared.status.Kind.{Kind}
 use Rattle.pool_master.specs.declared.status.Kind.TheVariants.{Missing, NotBuilt}
 use Rattle.pool_master.specs.declared.status.Status.{Status}
 use Rattle.pool_master.specs.declared.status.Status.TheVariants as status
-use Rattle.pool_master.specs.Forms.{Line, LineForm, Fits, IsFirstBad, IsConfig, IsSubmitFile, lines_of, line, config_forms, submit_forms, machine_line, memory_line, executable_line, request_memory_line}
+use Rattle.pool_master.specs.Forms.{Line, LineForm, Fits, IsFirstBad, IsConfig, IsSubmitFile, lines_of, config_forms, submit_forms}
 use Rattle.pool_master.specs.Input.{IsRefused, IsAccepted, IsConfigFile, IsJobFile, IsFileStatus, IsRefusedOf}
 
 config_fits : (bytes name : List ℕ) (memory : ℕ) → IsConfig bytes name memory → (k : ℕ) → Fits (slice_get config_forms k) (slice_get (lines_of bytes) k)

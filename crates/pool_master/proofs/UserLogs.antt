@@ -1,8 +1,8 @@
 -- The user log, event by event.
-use Rattle.std.proofs.Common.{◌≡◌, ◌∙◌, ℕ, Bool, true, false, List, [], ◌∷◌, ◌++◌, ◌≤◌, ◌<◌, length, Option, Some, None, refl, sym, ap, subst, arith, append_assoc, get_or, suc, codes}
+use Rattle.std.proofs.Common.{◌≡◌, ◌∙◌, ℕ, Bool, true, false, List, [], ◌∷◌, ◌++◌, length, Option, Some, None, refl, sym, ap, subst, arith, append_assoc, suc, codes}
 use Rattle.std.proofs.lemmas.List.{append-nil}
 use Rattle.std.specs.List.{All}
-use Rattle.jiff.specs.Words.{civil_nanos, date_text, time_text}
+use Rattle.jiff.specs.Words.{date_text, time_text}
 use Rattle.jiff.specs.declared.civil.DateTime.{DateTime}
 use Rattle.jiff.proofs.Family.{same_datetime}
 use Rattle.pool_core.specs.declared.event.End.{End}

@@ -1,4 +1,4 @@
-use Rattle.std.proofs.Common.{◌≡◌, ◌∙◌, length, ap, arith, length-append, List, ◌∷◌, []}
+use Rattle.std.proofs.Common.{◌≡◌, length, arith, length-append, ◌∷◌, []}
 use Rattle.std.proofs.lemmas.List.Elements.{All-push}
 use Rattle.condor_pool.proofs.idle_spawners.Goals as goal
 

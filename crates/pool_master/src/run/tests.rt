@@ -16,6 +16,7 @@ struct Case {
     config: &'static str,
     submit: &'static str,
     end: ChildEnd,
+    failed_read: bool,
     failed_launch: bool,
     failed_write: bool,
     status: u8,
@@ -49,6 +50,7 @@ fn plain(name: &'static str) -> Case {
         config: CONFIG,
         submit: TRUE,
         end: ChildEnd::Exited(0),
+        failed_read: false,
         failed_launch: false,
         failed_write: false,
         status: 0,
@@ -68,7 +70,11 @@ fn store(alloc: Global, case: &Case) -> Result<MemStore, Fail> {
     let mut files = Vec::new(alloc);
     files.push(file(alloc, "pool.conf", case.config)?)?;
     files.push(file(alloc, "job.sub", case.submit)?)?;
-    Ok(MemStore::new(files, Vec::new(alloc)))
+    let mut fails = Vec::new(alloc);
+    if case.failed_read {
+        fails.push(1)?;
+    }
+    Ok(MemStore::new(files, fails))
 }
 
 fn spawner(alloc: Global, case: &Case) -> Result<MemSpawner, Fail>
@@ -187,6 +193,13 @@ fn each_status_comes_with_its_text(rt: HostRuntime) -> Result<(), Fail> {
             line: "input: none.conf:0: Missing",
             written: "",
             ..plain("a missing configuration")
+        },
+        Case {
+            failed_read: true,
+            status: 4,
+            line: "disk fault",
+            written: "",
+            ..plain("a configuration that can't be read")
         },
         Case {
             failed_write: true,

@@ -1,5 +1,4 @@
-use Rattle.std.proofs.Common.{◌≡◌, ◌∙◌, length, true, refl, arith, rules}
-use Rattle.pool_outer.specs.Files.{bytes_in}
+use Rattle.std.proofs.Common.{◌≡◌, ◌∙◌, true, refl, arith, rules}
 use Rattle.pool_master.proofs.Pieces.{read_more, no_more}
 use Rattle.pool_master.proofs.files.read_file.Goals as goal
 

@@ -1,4 +1,4 @@
-use Rattle.std.proofs.Common.{◌≡◌, ◌≢◌, ◌≤◌, ◌++◌, ◌∷◌, ◌==◌, [], ℕ, List, false, length, decimal, refl, rules}
+use Rattle.std.proofs.Common.{◌≡◌, ◌≢◌, ◌≤◌, ◌∷◌, ◌==◌, [], ℕ, List, false, length, decimal, refl, rules}
 use Rattle.pool_master.specs.Forms.{Line, MachineLine, MemoryLine, IsName, IsAmount, line, lines_of, machine_line, memory_line}
 use Rattle.pool_master.proofs.FormLines.{bad_here, bad_later, bad_more, no_memory}
 use Rattle.pool_master.proofs.form.config_of.Goals as goal

@@ -1,4 +1,4 @@
-use Rattle.std.proofs.Common.{◌≡◌, ◌≢◌, ◌∙◌, ◌-◌, ◌+◌, ◌∷◌, ℕ, suc, List, length, take, drop, Some, None, add-one, sym, arith, rules}
+use Rattle.std.proofs.Common.{◌≡◌, ◌≢◌, ◌-◌, ◌+◌, ◌∷◌, ℕ, suc, List, length, take, drop, Some, None, add-one, arith, rules}
 use Rattle.std.proofs.lemmas.Grind.{common_steps}
 use Rattle.std.specs.List.{position, position_or_len}
 use Rattle.pool_master.specs.Forms.{Line, line, lines_of}

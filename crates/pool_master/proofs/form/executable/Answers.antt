@@ -1,5 +1,5 @@
-use Rattle.std.proofs.Common.{◌≡◌, ◌≢◌, ◌∙◌, ◌++◌, ◌∷◌, ℕ, List, Some, ap, rules, slice_get}
-use Rattle.pool_master.specs.Forms.{Line, LineForm, ExecutableLine, IsOfForm, IsPath, Fits, line, lines_of, executable_line}
+use Rattle.std.proofs.Common.{◌≢◌, ◌∙◌, ◌∷◌, ℕ, List, Some, ap, rules, slice_get}
+use Rattle.pool_master.specs.Forms.{Line, ExecutableLine, IsPath, Fits, line, lines_of, executable_line}
 use Rattle.pool_master.proofs.FormLines.{not_fits, IsUtf8-path}
 use Rattle.pool_master.proofs.form.executable.Goals as goal
 

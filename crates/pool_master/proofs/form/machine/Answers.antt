@@ -1,5 +1,5 @@
-use Rattle.std.proofs.Common.{◌≡◌, ◌≢◌, ◌∙◌, ◌++◌, ◌∷◌, ℕ, List, Some, ap, rules, slice_get}
-use Rattle.pool_master.specs.Forms.{Line, LineForm, MachineLine, IsOfForm, IsName, Fits, line, lines_of, machine_line}
+use Rattle.std.proofs.Common.{◌≢◌, ◌∙◌, ◌∷◌, ℕ, List, Some, ap, rules, slice_get}
+use Rattle.pool_master.specs.Forms.{Line, MachineLine, IsName, Fits, line, lines_of, machine_line}
 use Rattle.pool_master.proofs.FormLines.{not_fits, IsUtf8-name}
 use Rattle.pool_master.proofs.form.machine.Goals as goal
 

@@ -1,4 +1,4 @@
-use Rattle.std.proofs.Common.{◌≡◌, ◌∙◌, ℕ, Some, None, arith, rules, sym}
+use Rattle.std.proofs.Common.{◌≡◌, ℕ, Some, None, rules}
 use Rattle.pool_master.specs.Forms.{IsAmount}
 use Rattle.pool_master.proofs.Amounts.{IsUtf8-amount, reads_amount}
 use Rattle.pool_master.proofs.form.number.Goals as goal

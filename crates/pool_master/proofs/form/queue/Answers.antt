@@ -1,5 +1,5 @@
-use Rattle.std.proofs.Common.{◌≡◌, ◌≢◌, ◌∙◌, ◌++◌, ◌∷◌, ℕ, List, [], Some, codes, ap, rules, slice_get}
-use Rattle.pool_master.specs.Forms.{Line, LineForm, QueueLine, Fits, line, lines_of}
+use Rattle.std.proofs.Common.{◌≢◌, ◌∙◌, ◌++◌, ◌∷◌, ℕ, List, [], Some, codes, ap, rules, slice_get}
+use Rattle.pool_master.specs.Forms.{Line, QueueLine, Fits, line, lines_of}
 use Rattle.pool_master.proofs.FormLines.{not_fits}
 use Rattle.pool_master.proofs.form.queue.Goals as goal
 

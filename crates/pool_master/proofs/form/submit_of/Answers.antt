@@ -1,4 +1,4 @@
-use Rattle.std.proofs.Common.{◌≡◌, ◌≢◌, ◌≤◌, ◌++◌, ◌∷◌, ◌==◌, [], ℕ, List, Some, false, length, codes, decimal, refl, rules, slice_get}
+use Rattle.std.proofs.Common.{◌≡◌, ◌≢◌, ◌≤◌, ◌∷◌, ◌==◌, [], ℕ, List, Some, false, length, codes, decimal, refl, rules, slice_get}
 use Rattle.pool_master.specs.Forms.{Line, ExecutableLine, RequestMemoryLine, QueueLine, Fits, IsPath, IsAmount, line, lines_of, executable_line, request_memory_line}
 use Rattle.pool_master.proofs.FormLines.{bad_here, bad_later, bad_more, no_request_memory}
 use Rattle.pool_master.proofs.form.submit_of.Goals as goal

@@ -1,4 +1,4 @@
-use Rattle.std.proofs.Common.{◌≡◌, ◌∙◌, ◌≤◌, inl, inr, ℕ, true, false, length, ap, refl, arith}
+use Rattle.std.proofs.Common.{◌∙◌, inr, ap, refl, arith}
 use Rattle.pool_core.specs.CourseValue.{CourseValue}
 use Rattle.pool_core.specs.Histories.{submits}
 use Rattle.pool_master.proofs.Playing.{follows_none, between_none, submit_follows, submit_between, submit_submits, close_follows, close_between, close_submits}

@@ -1,7 +1,7 @@
 -- A start that the pool accepts, the child that it launches, and the ending that it is seen to have.
-use Rattle.std.proofs.Common.{◌≡◌, ◌∙◌, ap}
+use Rattle.std.proofs.Common.{◌∙◌, ap}
 use Rattle.pool_core.specs.CourseValue.{CourseValue}
-use Rattle.pool_master.proofs.Playing.{IsRun, follows_launch, follows_refused, follows_ended, between_ended, start_on, start_launched, start_follows, start_submits, end_submits}
+use Rattle.pool_master.proofs.Playing.{follows_launch, follows_refused, follows_ended, between_ended, start_on, start_launched, start_follows, start_submits, end_submits}
 use Rattle.pool_master.proofs.Pools.{ready, still_open, may_end, may_close, open_at_end}
 use Rattle.pool_master.proofs.play.run_job.Goals as goal
 

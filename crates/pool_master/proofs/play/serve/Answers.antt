@@ -1,4 +1,4 @@
-use Rattle.std.proofs.Common.{◌≡◌, ◌∙◌, ◌<◌, ap, rules, subst}
+use Rattle.std.proofs.Common.{◌∙◌, ◌<◌, ap, rules, subst}
 use Rattle.pool_core.specs.declared.pool.Pool.{Pool}
 use Rattle.pool_master.proofs.Pools.{may_start, may_close_idle}
 use Rattle.pool_master.proofs.play.serve.Goals as goal

@@ -1,10 +1,8 @@
-use Rattle.std.proofs.Common.{◌≡◌, ◌≢◌, ◌∙◌, ◌⊎◌, inl, inr, List, [], ◌∷◌, true, false, refl, sym, ap, subst, rules}
-use Rattle.pool_core.specs.declared.history.Step.{Step}
+use Rattle.std.proofs.Common.{◌≡◌, ◌≢◌, ◌∙◌, true, false, refl, sym, ap, rules}
 use Rattle.pool_core.specs.declared.pool.Pool.{Pool}
-use Rattle.pool_core.specs.Histories.{submits, ends_in_close}
+use Rattle.pool_core.specs.Histories.{ends_in_close}
 use Rattle.pool_core.specs.Reactions.{opening_pool}
-use Rattle.pool_master.specs.Follows.{Follows, IsBetween}
-use Rattle.pool_master.proofs.PoolRun.{IsPlayed, played, played_job, printed_runs, open_runs, printed_late}
+use Rattle.pool_master.proofs.PoolRun.{played, played_job, printed_runs, open_runs, printed_late}
 use Rattle.pool_master.proofs.run.run_course.Goals as goal
 
 pub print-requires : goal.print-requires

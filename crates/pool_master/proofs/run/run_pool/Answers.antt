@@ -1,4 +1,4 @@
-use Rattle.std.proofs.Common.{◌≡◌, true, arith}
+use Rattle.std.proofs.Common.{arith}
 use Rattle.pool_master.proofs.FirstOf.{first_is, first_set, others_set}
 use Rattle.pool_master.proofs.run.run_pool.Goals as goal
 

@@ -1,5 +1,4 @@
-use Rattle.std.proofs.Common.{◌≡◌, ◌∷◌, [], ◌≤◌, ◌++◌, List, string_bytes, rules}
-use Rattle.pool_core.specs.declared.history.Step.{Step}
+use Rattle.std.proofs.Common.{◌≡◌, ◌∷◌, [], ◌≤◌, string_bytes, rules}
 use Rattle.pool_core.specs.Events.{reading_of}
 use Rattle.pool_master.specs.UserLog.{IsLines, never_starts}
 use Rattle.pool_master.proofs.UserLogs.{prints_on, prints_all, none_left, all_behind}

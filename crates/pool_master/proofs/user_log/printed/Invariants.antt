@@ -1,5 +1,5 @@
 -- The text so far, and whatever the other events print, is what all of them print.
-use Rattle.std.proofs.Common.{◌≡◌, ◌≤◌, ◌++◌, ℕ, List, string_bytes, length, All}
+use Rattle.std.proofs.Common.{◌≤◌, ◌++◌, ℕ, List, string_bytes, length, All}
 use Rattle.pool_core.specs.Events.{reading_of}
 use Rattle.pool_master.specs.UserLog.{ArePrinted}
 use Rattle.pool_master.proofs.user_log.printed.Given as goal
