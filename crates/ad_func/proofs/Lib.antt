@@ -1,0 +1,3 @@
+mod ArgumentLemmas
+mod NumberLemmas
+mod ListLemmas

@@ -1,0 +1,11 @@
+-- The chain gives the pieces that are not empty.
+use Rattle.std.proofs.Common.{rules, tests, bytes_eq}
+use Rattle.std.proofs.lemmas.Iterator.Consumers.{YieldsList-from_filter, YieldsList-at}
+use Rattle.std.proofs.lemmas.Iterator.Search.{any_from_yields_List}
+use Rattle.std.proofs.lemmas.Iterator.Splits.{YieldsList-from_slice_split}
+use Rattle.ad_func.specs.Lists.{has_char, is_piece}
+use Rattle.ad_func.proofs.lists.any_piece.Goals as goal
+
+pub returns : goal.returns
+returns c =
+    any_from_yields_List (λ p. bytes_eq p c.args.wanted.now) _ _ _ c.any.ensures.ran (YieldsList-from_filter _ is_piece (YieldsList-at c.filter.ensures.source (YieldsList-from_slice_split _ (λ x. has_char c.args.delimiters.now x) c.args.text.now c.split.ensures.rest c.split.ensures.done c.split.ensures.closure (λ x r q k. search (rules, tests)))) c.filter.ensures.closure (λ x r q k. search (rules, tests))) (λ x r q k. search (rules, tests))

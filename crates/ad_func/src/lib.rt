@@ -1,0 +1,14 @@
+//! The functions of the ClassAd language: `call` looks one up by name and gives its value.
+#![tactic(auto)]
+
+mod arguments;
+mod function;
+mod kinds;
+mod lists;
+mod numbers;
+mod table;
+#[cfg(test)]
+mod tests;
+mod texts;
+
+pub use table::call;

@@ -1,0 +1,264 @@
+ghost use Rattle.std.specs.Prelude.{◌≡◌, ◌+◌, ◌++◌, ℤ, Some, IfOk, OnOk, map, length, chars, encode_utf8_all, string_bytes, option_map};
+ghost use Rattle.ad_value.specs.Content.{content, text as text_value};
+ghost use Rattle.ad_func.specs.Arguments.{with_one, with_two, with_two_or_three};
+ghost use Rattle.ad_func.specs.Texts.{string_of, strings_of, from_string, of_string, strcat, of_strings, upper, lower, compared, compared_folded, substr, start_of, end_of, characters, substring, substring_of_length};
+
+use crate::arguments::{one, two, two_or_three, unless_settled};
+use crate::numbers::characters_in;
+use ad_value::{Memory, Text, Value};
+use itoa::Buffer;
+use std::alloc::{AllocError, Global};
+use std::cmp::Ordering;
+
+fn some_string(alloc: Global, text: &str) -> Result<Option<String>, Memory>
+    ensures { IfOk result (λ s. option_map (λ t. string_bytes t) s ≡ Some text.now) }
+{
+    Ok(Some(String::from_str(alloc, text)?))
+}
+
+/// The text of a text, an integer or a truth value.
+fn string_of(alloc: Global, value: &Value) -> Result<Option<String>, Memory>
+    ensures { IfOk result (λ s. option_map (λ t. string_bytes t) s ≡ string_of (content value.now)) }
+{
+    match value {
+        Value::Str(text) => some_string(alloc, text.as_str()),
+        Value::Int(n) => {
+            let mut buffer = Buffer::new();
+            some_string(alloc, buffer.format(*n))
+        }
+        Value::Bool(true) => some_string(alloc, "true"),
+        Value::Bool(false) => some_string(alloc, "false"),
+        Value::Undefined | Value::Error | Value::List(_) => Ok(None),
+    }
+}
+
+fn string_value(alloc: Global, x: &Value) -> Result<Value, Memory>
+    ensures { IfOk result (λ v. content v ≡ of_string text_value (content x.now)) }
+{
+    match string_of(alloc, x)? {
+        Some(text) => Ok(Value::Str(Text::from(text))),
+        None => Ok(Value::Error),
+    }
+}
+
+/// `string(x)`
+pub fn string(alloc: Global, values: &[Value]) -> Result<Value, Memory>
+    ensures { IfOk result (λ v. content v ≡ with_one (of_string text_value) (map content values.now)) }
+{
+    match one(values) {
+        Ok(x) => string_value(alloc, x),
+        Err(value) => Ok(value),
+    }
+}
+
+fn upper_value(alloc: Global, x: &Value) -> Result<Value, Memory>
+    ensures { IfOk result (λ v. content v ≡ of_string upper (content x.now)) }
+{
+    match string_of(alloc, x)? {
+        Some(mut text) => {
+            text.make_ascii_uppercase();
+            Ok(Value::Str(Text::from(text)))
+        }
+        None => Ok(Value::Error),
+    }
+}
+
+/// `toUpper(x)`: the text with its ASCII letters in upper case.
+pub fn to_upper(alloc: Global, values: &[Value]) -> Result<Value, Memory>
+    ensures { IfOk result (λ v. content v ≡ with_one (of_string upper) (map content values.now)) }
+{
+    match one(values) {
+        Ok(x) => upper_value(alloc, x),
+        Err(value) => Ok(value),
+    }
+}
+
+fn lower_value(alloc: Global, x: &Value) -> Result<Value, Memory>
+    ensures { IfOk result (λ v. content v ≡ of_string lower (content x.now)) }
+{
+    match string_of(alloc, x)? {
+        Some(mut text) => {
+            text.make_ascii_lowercase();
+            Ok(Value::Str(Text::from(text)))
+        }
+        None => Ok(Value::Error),
+    }
+}
+
+/// `toLower(x)`
+pub fn to_lower(alloc: Global, values: &[Value]) -> Result<Value, Memory>
+    ensures { IfOk result (λ v. content v ≡ with_one (of_string lower) (map content values.now)) }
+{
+    match one(values) {
+        Ok(x) => lower_value(alloc, x),
+        Err(value) => Ok(value),
+    }
+}
+
+fn compare(a: &str, b: &str) -> Value
+    ensures { content result ≡ compared a.now b.now }
+{
+    match a.cmp(b) {
+        Ordering::Less => Value::Int(-1),
+        Ordering::Equal => Value::Int(0),
+        Ordering::Greater => Value::Int(1),
+    }
+}
+
+fn compare_folded(alloc: Global, a: &str, b: &str) -> Result<Value, Memory>
+    ensures { IfOk result (λ v. content v ≡ compared_folded a.now b.now) }
+{
+    let a = caseless::default_case_fold_str(alloc, a)?;
+    let b = caseless::default_case_fold_str(alloc, b)?;
+    Ok(compare(a.as_str(), b.as_str()))
+}
+
+fn compare_values(alloc: Global, x: &Value, y: &Value) -> Result<Value, Memory>
+    ensures { IfOk result (λ v. content v ≡ of_strings compared (content x.now) (content y.now)) }
+{
+    let Some(a) = string_of(alloc, x)? else {
+        return Ok(Value::Error);
+    };
+    let Some(b) = string_of(alloc, y)? else {
+        return Ok(Value::Error);
+    };
+    Ok(compare(a.as_str(), b.as_str()))
+}
+
+fn compare_values_folded(alloc: Global, x: &Value, y: &Value) -> Result<Value, Memory>
+    ensures { IfOk result (λ v. content v ≡ of_strings compared_folded (content x.now) (content y.now)) }
+{
+    let Some(a) = string_of(alloc, x)? else {
+        return Ok(Value::Error);
+    };
+    let Some(b) = string_of(alloc, y)? else {
+        return Ok(Value::Error);
+    };
+    compare_folded(alloc, a.as_str(), b.as_str())
+}
+
+/// `strcmp(a, b)`: -1, 0 or 1 by the bytes of the texts.
+pub fn strcmp(alloc: Global, values: &[Value]) -> Result<Value, Memory>
+    ensures { IfOk result (λ v. content v ≡ with_two (of_strings compared) (map content values.now)) }
+{
+    match two(values) {
+        Ok((x, y)) => compare_values(alloc, x, y),
+        Err(value) => Ok(value),
+    }
+}
+
+/// `stricmp(a, b)`: the same of the folded texts.
+pub fn stricmp(alloc: Global, values: &[Value]) -> Result<Value, Memory>
+    ensures { IfOk result (λ v. content v ≡ with_two (of_strings compared_folded) (map content values.now)) }
+{
+    match two(values) {
+        Ok((x, y)) => compare_values_folded(alloc, x, y),
+        Err(value) => Ok(value),
+    }
+}
+
+fn start_of(count: usize, offset: i64) -> usize
+    ensures { result ≡ start_of count offset }
+{
+    let distance = offset.unsigned_abs() as usize;
+    if offset < 0 {
+        count.saturating_sub(distance)
+    } else {
+        distance.min(count)
+    }
+}
+
+fn end_of(count: usize, start: usize, length: i64) -> usize
+    ensures { result ≡ end_of count start length }
+{
+    let distance = length.unsigned_abs() as usize;
+    if length < 0 {
+        start.max(count.saturating_sub(distance))
+    } else {
+        count.min(start.saturating_add(distance))
+    }
+}
+
+fn characters(alloc: Global, text: &str, start: usize, end: usize) -> Result<String, AllocError>
+    ensures { IfOk result (λ t. string_bytes t ≡ encode_utf8_all (characters start end (chars text.now))) }
+{
+    let length = end.saturating_sub(start);
+    text.chars().skip(start).take(length).collect(alloc)
+}
+
+fn substring(alloc: Global, text: &str, offset: i64) -> Result<Value, Memory>
+    ensures { IfOk result (λ v. content v ≡ text_value (encode_utf8_all (substring (chars text.now) offset))) }
+{
+    let count = characters_in(text);
+    let part = characters(alloc, text, start_of(count, offset), count)?;
+    Ok(Value::Str(Text::from(part)))
+}
+
+fn substring_of_length(alloc: Global, text: &str, offset: i64, length: i64) -> Result<Value, Memory>
+    ensures { IfOk result (λ v. content v ≡ text_value (encode_utf8_all (substring_of_length (chars text.now) offset length))) }
+{
+    let count = characters_in(text);
+    let start = start_of(count, offset);
+    let part = characters(alloc, text, start, end_of(count, start, length))?;
+    Ok(Value::Str(Text::from(part)))
+}
+
+fn substring_value(
+    alloc: Global,
+    s: &Value,
+    offset: &Value,
+    length: Option<&Value>,
+) -> Result<Value, Memory>
+    ensures { IfOk result (λ v. content v ≡ substr (content s.now) (content offset.now) (option_map (λ n. content n.now) length.entry)) }
+{
+    match (s, offset, length) {
+        (Value::Str(text), Value::Int(offset), None) => substring(alloc, text.as_str(), *offset),
+        (Value::Str(text), Value::Int(offset), Some(Value::Int(length))) => {
+            substring_of_length(alloc, text.as_str(), *offset, *length)
+        }
+        _ => Ok(Value::Error),
+    }
+}
+
+/// `substr(s, offset)` and `substr(s, offset, length)`, in characters; a negative offset counts from the end,
+/// and a negative length leaves characters out at the end.
+pub fn substr(alloc: Global, values: &[Value]) -> Result<Value, Memory>
+    ensures { IfOk result (λ v. content v ≡ with_two_or_three substr (map content values.now)) }
+{
+    match two_or_three(values) {
+        Ok((s, offset, length)) => substring_value(alloc, s, offset, length),
+        Err(value) => Ok(value),
+    }
+}
+
+fn joined(alloc: Global, values: &[Value]) -> Result<Option<String>, Memory>
+    ensures { IfOk result (λ s. option_map (λ t. string_bytes t) s ≡ strings_of (map content values.now)) }
+{
+    let mut text = String::new(alloc);
+    for value in values {
+        match string_of(alloc, value)? {
+            Some(more) => text.push_str(more.as_str())?,
+            None => return Ok(None),
+        }
+    }
+    Ok(Some(text))
+}
+
+fn joined_value(alloc: Global, values: &[Value]) -> Result<Value, Memory>
+    ensures { IfOk result (λ v. content v ≡ from_string text_value (strings_of (map content values.now))) }
+{
+    match joined(alloc, values)? {
+        Some(text) => Ok(Value::Str(Text::from(text))),
+        None => Ok(Value::Error),
+    }
+}
+
+/// `strcat(x, y, ..)` of any number of values.
+pub fn strcat(alloc: Global, values: &[Value]) -> Result<Value, Memory>
+    ensures { IfOk result (λ v. content v ≡ strcat (map content values.now)) }
+{
+    match unless_settled(values, ()) {
+        Ok(()) => joined_value(alloc, values),
+        Err(value) => Ok(value),
+    }
+}
