@@ -1,6 +1,7 @@
 -- Ads as lists: what a change leaves, and how the entries of a table show them.
-use Rattle.std.proofs.Common.{◌≡◌, ℕ, suc, ◌+◌, ◌≤◌, Bool, true, false, true≢false, cond, List, [], ◌∷◌, ◌++◌, length, map, Option, Some, None, is_some, IsTrue, refl, ap, sym, ◌∙◌, subst, append_assoc, arith, not, ⊎_elim, IsSome, position}
-use Rattle.std.proofs.lemmas.Bool.{cases_lt}
+use Rattle.std.proofs.Common.{◌≡◌, ℕ, suc, ◌+◌, ◌<◌, ◌≤◌, ◌==◌, slice_get, Bool, true, false, true≢false, cond, List, [], ◌∷◌, ◌++◌, length, map, Option, Some, None, is_some, IsTrue, refl, ap, sym, ◌∙◌, subst, append_assoc, arith, not, ⊎_elim, IsSome, position}
+use Rattle.std.proofs.lemmas.Bool.{cases_lt, eqb-true, eqb-false}
+use Rattle.std.specs.Prelude.{unwrap_or}
 use Rattle.std.specs.Borrow.{Bor}
 use Rattle.std.specs.Option.{option_map, option_copied}
 use Rattle.std.specs.Map as table
@@ -174,3 +175,20 @@ IsSome-from b o e = (λ h. sym e ∙ h, λ h. e ∙ h)
 pub None-from : {A : Type 0} (b : Bool) (o : Option A) → b ≡ is_some o → (IsTrue (not b) → o ≡ None) × (o ≡ None → IsTrue (not b))
 None-from b None e = (λ h. refl, λ h. ap not e)
 None-from b (Some x) e = (λ h. absurd (true≢false (sym h ∙ ap not e)), λ h. absurd (true≢false (ap is_some h)))
+
+-- what holds below a place and at it holds below the next
+pub below_more : {P : ℕ → Type 0} (n : ℕ) → ((k : ℕ) → k < n → P k) → P n → (k : ℕ) → k < n + 1 → P k
+below_more {P} n below here k less = by_test (k == n) refl
+  where
+    by_test : (b : Bool) → (k == n) ≡ b → P k
+    by_test true is = subst P (sym (eqb-true k n is)) here
+    by_test false is = below k (omega (arith, eqb-false k n is))
+
+-- lists of one length with the same at each place are the same
+pub same_lists : {A : Type 0} (xs ys : List A) → length xs ≡ length ys → ((k : ℕ) → k < length xs → slice_get xs k ≡ slice_get ys k) → xs ≡ ys
+same_lists [] [] long at = refl
+same_lists [] (y ∷ ys) long at = absurd (omega arith)
+same_lists (x ∷ xs) [] long at = absurd (omega arith)
+same_lists (x ∷ xs) (y ∷ ys) long at =
+    let first : x ≡ y = ap (λ o. unwrap_or o x) (at 0 (omega arith)) in
+    ap (λ z. z ∷ xs) first ∙ ap (λ zs. y ∷ zs) (same_lists xs ys (omega arith) (λ k less. at (suc k) (omega arith)))

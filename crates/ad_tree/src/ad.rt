@@ -143,6 +143,39 @@ impl Ad {
     }
 }
 
+impl Ad {
+    ghost use Rattle.std.specs.Prelude.{slice_get};
+
+    /// Whether both have the same names, as they are spelled, and the same expressions, in the same order. Takes no memory, and
+    /// time that grows with the smaller of the two.
+    pub fn same(&self, other: &Ad) -> bool
+        ensures { IsTrue result ↔ (self.now ≡ other.now) }
+    {
+        if self.len() != other.len() {
+            return false;
+        }
+        for place in 0..self.len() {
+            if !self.same_at(other, place) {
+                return false;
+            }
+        }
+        true
+    }
+
+    // Whether both have the same at a place, or both nothing.
+    fn same_at(&self, other: &Ad, place: usize) -> bool
+        ensures { IsTrue result ↔ (slice_get self.now place ≡ slice_get other.now place) }
+    {
+        match (self.attribute(place), other.attribute(place)) {
+            (Some((name, expr)), Some((other_name, other_expr))) => {
+                name == other_name && expr.same(other_expr)
+            }
+            (None, None) => true,
+            _ => false,
+        }
+    }
+}
+
 fn put(
     attributes: &mut IndexMap<Name, Expr>,
     alloc: Global,

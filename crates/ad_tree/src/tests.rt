@@ -68,12 +68,12 @@ fn choice(alloc: Global) -> Result<Expr, Memory> {
 }
 
 #[test]
-fn a_copy_has_each_part(rt: HostRuntime) -> Result<(), Fail> {
+fn a_copy_is_the_same(rt: HostRuntime) -> Result<(), Fail> {
     let alloc = rt.alloc();
     let expr = choice(alloc)?;
     let copy = expr.copy(alloc)?;
-    let text = format!(in alloc; "{copy:?}")?;
-    assert_eq!(rt; text.as_str(), format!(in alloc; "{expr:?}")?.as_str());
+    assert!(rt; copy.same(&expr));
+    assert!(rt; !copy.same(&number(2)));
     Ok(())
 }
 
@@ -134,32 +134,61 @@ fn shown(alloc: Global, ad: &Ad) -> Result<String, Fail> {
     Ok(text)
 }
 
+// An ad of these names, each with its place in the list from 1 on as its integer.
+fn named(alloc: Global, names: &[&str]) -> Result<Ad, SetError> {
+    let mut ad = Ad::new(alloc);
+    for (i, name) in names.iter().enumerate() {
+        ad.set(alloc, name, number(i as i64 + 1))?;
+    }
+    Ok(ad)
+}
+
 #[test]
 fn names_are_found_without_case(rt: HostRuntime) -> Result<(), Fail> {
     let alloc = rt.alloc();
-    let mut ad = Ad::new(alloc);
-    assert!(rt; ad.is_empty());
-    ad.set(alloc, "RequestMemory", number(1))?;
-    ad.set(alloc, "Rank", number(2))?;
-    ad.set(alloc, "REQUESTMEMORY", number(3))?;
-    ad.set(alloc, "été", number(4))?;
     // Only ASCII letters are without case.
-    ad.set(alloc, "ÉTÉ", number(5))?;
-    assert_eq!(rt;
-        shown(alloc, &ad)?.as_str(),
-        "RequestMemory=3 Rank=2 été=4 ÉTÉ=5 "
-    );
+    let names = ["RequestMemory", "Rank", "REQUESTMEMORY", "été", "ÉTÉ"];
+    let mut ad = named(alloc, &names)?;
+    let all = "RequestMemory=3 Rank=2 été=4 ÉTÉ=5 ";
+    assert_eq!(rt; shown(alloc, &ad)?.as_str(), all);
     assert_eq!(rt; ad.place("rANK"), Some(1));
     assert_eq!(rt; ad.place("Ran"), None);
     assert_eq!(rt; ad.get("requestmemory").map(integer), Some(3));
     assert!(rt; ad.get("Requestmemor").is_none());
     assert!(rt; ad.remove("rank"));
     assert!(rt; !ad.remove("rank"));
-    let copy = ad.copy(alloc)?;
-    assert_eq!(rt;
-        shown(alloc, &copy)?.as_str(),
-        "RequestMemory=3 été=4 ÉTÉ=5 "
-    );
+    let rest = "RequestMemory=3 été=4 ÉTÉ=5 ";
+    assert_eq!(rt; shown(alloc, &ad)?.as_str(), rest);
+    Ok(())
+}
+
+// Whether a copy is the same, and still is where this name is set too.
+fn same_with(alloc: Global, ad: &Ad, name: &str, n: i64) -> Result<(bool, bool), SetError> {
+    let mut copy = ad.copy(alloc)?;
+    let before = ad.same(&copy);
+    copy.set(alloc, name, number(n))?;
+    Ok((before, ad.same(&copy)))
+}
+
+#[test]
+fn ads_are_the_same_in_each_part(rt: HostRuntime) -> Result<(), Fail> {
+    let alloc = rt.alloc();
+    let ad = named(alloc, &["a", "B"])?;
+    let table = [
+        ("A", 1, true),
+        ("a", 2, false),
+        ("b", 1, false),
+        ("c", 1, false),
+    ];
+    for (name, n, still) in table {
+        assert_eq!(rt;
+            same_with(alloc, &ad, name, n)?,
+            (true, still),
+            "{name} = {n}"
+        );
+    }
+    assert!(rt; !ad.same(&named(alloc, &["B", "a"])?));
+    assert!(rt; !ad.same(&named(alloc, &["a", "b"])?));
     Ok(())
 }
 
@@ -167,9 +196,16 @@ fn names_are_found_without_case(rt: HostRuntime) -> Result<(), Fail> {
 fn numbered(alloc: Global, count: i64) -> Result<Ad, Fail> {
     let mut ad = Ad::new(alloc);
     for i in 0..count {
-        ad.set(alloc, format!(in alloc; "Name{i}")?.as_str(), number(i))?;
+        set_numbered(alloc, &mut ad, "Name", i)?;
     }
     Ok(ad)
+}
+
+// Sets the attribute of that number.
+fn set_numbered(alloc: Global, ad: &mut Ad, prefix: &str, i: i64) -> Result<(), Fail> {
+    let name = format!(in alloc; "{prefix}{i}")?;
+    ad.set(alloc, name.as_str(), number(i))?;
+    Ok(())
 }
 
 #[test]
@@ -179,66 +215,43 @@ fn the_257th_name_is_refused(rt: HostRuntime) -> Result<(), Fail> {
     let mut ad = numbered(alloc, 256)?;
     assert!(rt; ad.is_full_for("Other"));
     assert_eq!(rt; ad.set(alloc, "Other", number(1)), Err(SetError::Full));
+    set_numbered(alloc, &mut ad, "nAME", 255)?;
     assert_eq!(rt; ad.len(), 256);
     assert!(rt; ad.attribute(256).is_none());
-    Ok(())
-}
-
-#[test]
-fn each_of_256_is_changed_in_place(rt: HostRuntime) -> Result<(), Fail> {
-    let alloc = rt.alloc();
-    let mut ad = numbered(alloc, 256)?;
-    for i in 0..256i64 {
-        ad.set(
-            alloc,
-            format!(in alloc; "nAME{i}")?.as_str(),
-            number(i.wrapping_neg()),
-        )?;
-    }
-    for i in 0..256usize {
-        let (name, expr) = ad.attribute(i).ok_or("below the length")?;
-        assert_eq!(rt; name, format!(in alloc; "Name{i}")?.as_str());
-        assert_eq!(rt; integer(expr), (i as i64).wrapping_neg());
-    }
-    Ok(())
-}
-
-#[test]
-fn the_rest_keeps_its_order(rt: HostRuntime) -> Result<(), Fail> {
-    let alloc = rt.alloc();
-    let mut ad = numbered(alloc, 256)?;
     for (gone, place, next) in [("NAME0", 0, 1), ("NAME128", 127, 129), ("NAME255", 253, -1)] {
         assert_eq!(rt; ad.place(gone), Some(place));
         assert!(rt; ad.remove(gone));
         let found = ad.attribute(place).map_or(-1, |a| integer(a.1));
         assert_eq!(rt; found, next);
     }
-    assert_eq!(rt; ad.len(), 253);
     Ok(())
+}
+
+// One change of both, and whether they agree after it.
+fn agree(alloc: Global, ad: &mut Ad, plain: &mut PlainAd, seed: u32) -> Result<bool, Fail> {
+    let names = ["a", "B", "A", "b", "longer", "LONGER", "Longest", ""];
+    let name = names[(seed / 65_536) as usize % 8];
+    let mut same = true;
+    if seed % 3 == 0 {
+        same = ad.remove(name) == plain.remove(name);
+    } else {
+        let n = i64::from(seed % 1_000);
+        ad.set(alloc, name, number(n))?;
+        plain.set(alloc, name, n)?;
+    }
+    let found = ad.get(name).map(integer) == plain.get(name);
+    Ok(same && found && shown(alloc, ad)?.as_str() == plain.shown(alloc)?.as_str())
 }
 
 #[test]
 fn both_bodies_agree(rt: HostRuntime) -> Result<(), Fail> {
     let alloc = rt.alloc();
-    let names = ["a", "B", "A", "b", "longer", "LONGER", "Longest", ""];
     let mut ad = Ad::new(alloc);
     let mut plain = PlainAd::new(alloc);
     let mut seed: u32 = 7;
     for turn in 0..400 {
         seed = seed.wrapping_mul(1_103_515_245).wrapping_add(12_345);
-        let name = names[(seed / 65_536) as usize % 8];
-        if seed % 3 == 0 {
-            assert_eq!(rt; ad.remove(name), plain.remove(name), "turn {turn}");
-        } else {
-            ad.set(alloc, name, number(turn))?;
-            plain.set(alloc, name, turn)?;
-        }
-        assert_eq!(rt; ad.get(name).map(integer), plain.get(name), "turn {turn}");
-        assert_eq!(rt;
-            shown(alloc, &ad)?.as_str(),
-            plain.shown(alloc)?.as_str(),
-            "turn {turn}"
-        );
+        assert!(rt; agree(alloc, &mut ad, &mut plain, seed)?, "turn {turn}");
     }
     Ok(())
 }
