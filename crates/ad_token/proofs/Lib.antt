@@ -1,0 +1,7 @@
+pub mod Fronts
+pub mod Escapes
+pub mod Ends
+pub mod Turns
+pub mod Pieces
+pub mod Joined
+pub mod Proper

@@ -1,0 +1,6 @@
+pub mod Names
+pub mod Numbers
+pub mod Strings
+pub mod Marks
+pub mod Lexing
+pub mod Canonical

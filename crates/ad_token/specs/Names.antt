@@ -1,0 +1,74 @@
+-- Names, the words that are none, and the prefixes before names (HTCondor manual, "ClassAd syntax").
+use Rattle.std.specs.Prelude.{ℕ, ◌+◌, ◌==◌, ◌||◌, Bool, List, [], ◌∷◌, length, take, drop, codes, nat_lt, slice_index, Option, Some, None, is_some, if◌then◌else◌}
+use Rattle.std.specs.Char.{is_ascii_alphabetic, is_ascii_digit}
+use Rattle.std.specs.List.{prefix_len}
+use Rattle.ad_tree.specs.Name.{same_name}
+use Rattle.ad_tree.specs.declared.operator.BinOp.TheVariants as bin
+use Rattle.ad_tree.specs.declared.operator.Scope.{Scope}
+use Rattle.ad_tree.specs.declared.operator.Scope.TheVariants.{Bare, My, Target}
+use Rattle.ad_token.specs.declared.token.Token.{Token}
+use Rattle.ad_token.specs.declared.token.Token.TheVariants as token
+
+-- an ASCII letter or `_`
+abbrev pub is_letter : ℕ → Bool
+is_letter b = is_ascii_alphabetic b || (b == 95)
+
+abbrev pub is_name_byte : ℕ → Bool
+is_name_byte b = is_letter b || is_ascii_digit b
+
+-- how long the name at the front is, 0 where none begins
+abbrev pub name_length : List ℕ → ℕ
+name_length bs = if is_letter (slice_index bs 0) then prefix_len is_name_byte bs else 0
+
+abbrev pub name_of : List ℕ → List ℕ
+name_of bs = take (name_length bs) bs
+
+abbrev pub is_too_long : List ℕ → Bool
+is_too_long name = nat_lt 128 (length name)
+
+-- the words, without case
+unfoldable pub word_of : List ℕ → Option Token
+word_of name =
+    if same_name name (codes "TRUE") then Some token.True
+    else (if same_name name (codes "FALSE") then Some token.False
+    else (if same_name name (codes "UNDEFINED") then Some token.Undefined
+    else (if same_name name (codes "ERROR") then Some token.Error
+    else (if same_name name (codes "IS") then Some (token.Op bin.Same)
+    else (if same_name name (codes "ISNT") then Some (token.Op bin.NotSame)
+    else None)))))
+
+unfoldable pub prefix_of : List ℕ → Option Scope
+prefix_of name = if same_name name (codes "MY") then Some My else (if same_name name (codes "TARGET") then Some Target else None)
+
+-- the name behind a dot at the front; empty where no dot is there, and no name or a word behind it
+abbrev pub unless_word : List ℕ → List ℕ
+unless_word name = if is_some (word_of name) then [] else name
+
+unfoldable pub name_behind_dot : List ℕ → List ℕ
+name_behind_dot bs = if slice_index bs 0 == 46 then unless_word (name_of (drop 1 bs)) else []
+
+-- a name with nothing before it
+abbrev pub bare : List ℕ → Token
+bare name = token.Name Bare name
+
+-- A name that may be a prefix, and the name behind its dot. Where that one is too long, the dot belongs to
+-- the first, so that what is refused is the second.
+unfoldable pub scoped : Scope → List ℕ → List ℕ → Token × ℕ
+scoped scope prefix [] = (bare prefix, length prefix)
+scoped scope prefix (b ∷ bs) = if is_too_long (b ∷ bs) then (bare prefix, length prefix + 1) else (token.Name scope (b ∷ bs), length prefix + 1 + length (b ∷ bs))
+
+abbrev pub perhaps_scoped : Option Scope → List ℕ → List ℕ → Token × ℕ
+perhaps_scoped None name after = (bare name, length name)
+perhaps_scoped (Some scope) name after = scoped scope name (name_behind_dot after)
+
+abbrev pub perhaps_word : Option Token → List ℕ → List ℕ → Token × ℕ
+perhaps_word (Some word) name after = (word, length name)
+perhaps_word None name after = perhaps_scoped (prefix_of name) name after
+
+-- the token of a name and of the text after it
+abbrev pub named : List ℕ → List ℕ → Token × ℕ
+named name after = if is_too_long name then (token.Bad, length name) else perhaps_word (word_of name) name after
+
+-- the token that begins with a letter, and its length
+unfoldable pub name_token : List ℕ → Token × ℕ
+name_token bs = named (name_of bs) (drop (name_length bs) bs)

@@ -1,0 +1,51 @@
+use ad_tree::{BinOp, Scope};
+use ad_value::Text;
+
+/// A kind of bracket.
+#[derive(Clone, Copy, Debug, PartialEq, Eq)]
+pub enum Bracket {
+    /// `(` and `)`
+    Round,
+    /// `{` and `}`
+    Curly,
+}
+
+/// A token of an expression. `Real`, `Range` and `Bad` stand in no expression.
+#[derive(Debug, Drop)]
+pub enum Token {
+    Undefined,
+    Error,
+    True,
+    False,
+    Int(i64),
+    /// A string, without its quotes and escapes.
+    Str(Text),
+    /// A name, with the prefix before it.
+    Name { scope: Scope, text: Text },
+    /// An operator between operands; `+` and `-` stand before one too.
+    Op(BinOp),
+    /// `!`
+    Not,
+    /// `?`
+    Question,
+    /// `:`
+    Colon,
+    /// `?:`
+    OrElse,
+    Open(Bracket),
+    Close(Bracket),
+    Comma,
+    /// A number with a fraction or an exponent that is not zero.
+    Real,
+    /// An integer above 9223372036854775807.
+    Range,
+    /// A piece of text that is no token.
+    Bad,
+}
+
+/// A token and the offset of its first byte.
+#[derive(Debug, Drop)]
+pub struct Placed {
+    pub at: u64,
+    pub token: Token,
+}
