@@ -1,0 +1,31 @@
+-- Each turn writes one operand or item more, and at the end there are all of them.
+use Rattle.std.proofs.Common.{◌≡◌, arith, rules, sym, ap, ◌∙◌, ◌++◌, ◌-◌, string_bytes, map, take, get_or, append_assoc}
+use Rattle.std.proofs.lemmas.List.{take_all}
+use Rattle.ad_value.specs.Literal.{separator}
+use Rattle.ad_tree.specs.declared.tree.Expr.{the_lemmas}
+use Rattle.ad_tree.specs.Tree.{tree, trees_of, rest, rests_of}
+use Rattle.ad_parse.specs.Operators.{level_of}
+use Rattle.ad_parse.specs.Canon.{canon, canon_rests, canon_items, within, looseness, infix_text}
+use Rattle.ad_parse.proofs.CanonLemmas.{trees-map, rests-map, rest_text, rests_more, items_more}
+use Rattle.ad_parse.proofs.print.+write.Goals as goal
+
+pub write_items-loop-i-preserved : goal.write_items-loop-i-preserved
+write_items-loop-i-preserved t c =
+    let here = c.item-item.is ∙ ap (λ l. get_or l c.loop-i.i c.item-item.result) c.deref-item-items.ensures.value in
+    c.in_ok-write_expr.ensures ∙ ap (λ l. l ++ canon (tree c.item-item.result)) (c.in_ok-write_separator.ensures ∙ ap (λ l. l ++ separator c.loop-i.i) c.loop-i.invariant) ∙ items_more (string_bytes c.args.text.now) c.args.list.now.items.items c.loop-i.i c.item-item.result (omega arith) here
+
+pub write_items-returns : goal.write_items-returns
+write_items-returns t c =
+    c.loop-i.invariant ∙ ap (λ es. string_bytes c.args.text.now ++ canon_items (trees_of es)) (ap (map tree) (take_all c.loop-i.i c.args.list.now.items.items (omega arith)) ∙ sym (trees-map c.args.list.now))
+
+pub write_rests-loop-rest-preserved : goal.write_rests-loop-rest-preserved
+write_rests-loop-rest-preserved t c =
+    let pair : rest c.rest-item.result ≡ (c.rest-item.result.op, tree c.rest-item.result.arg) = search (rules, the_lemmas) in
+    let front = string_bytes c.args.text.now ++ canon_rests (rests_of (map rest (take c.loop-rest.rest-index c.deref-rest-items.result.now))) in
+    rw (c.in_ok-write_within.ensures, c.in_ok-push_str.ensures.bytes, c.infix_str.ensures, c.level.ensures, c.loop-rest.invariant)
+    (append_assoc front (infix_text c.rest-item.result.op) (within (level_of c.rest-item.result.op - 1) (looseness (tree c.rest-item.result.arg)) (canon (tree c.rest-item.result.arg))) ∙ ap (λ r. front ++ rest_text r) (sym pair) ∙ rests_more (string_bytes c.args.text.now) c.deref-rest-items.result.now c.loop-rest.rest-index c.rest-item.result (omega arith) c.rest-item.is)
+
+pub write_rests-returns : goal.write_rests-returns
+write_rests-returns t c =
+    let all = take_all c.loop-rest.rest-index c.deref-rest-items.result.now (omega arith) ∙ c.deref-rest-items.ensures.value in
+    c.loop-rest.invariant ∙ ap (λ rs. string_bytes c.args.text.now ++ canon_rests (rests_of rs)) (ap (map rest) all ∙ sym (rests-map c.args.list.now))

@@ -1,0 +1,27 @@
+-- A function of the program gives what reading gives, unless memory runs out.
+use Rattle.std.specs.Prelude.{◌≡◌, List, Result, Ok, Err}
+use Rattle.std.specs.Borrow.{Bor}
+use Rattle.ad_token.specs.declared.token.Placed.{Placed}
+use Rattle.ad_parse.specs.declared.error.ParseError.{ParseError}
+use Rattle.ad_parse.specs.declared.error.ParseError.TheVariants.{TooLong, Real, Range, TooDeep, Syntax, Memory}
+
+abbrev pub Fails : {Y : Type 0} → ParseError → Result Y ParseError → Type 0
+Fails Memory read = Unit {0}
+Fails (TooLong length) read = read ≡ Err (TooLong length)
+Fails (Real at) read = read ≡ Err (Real at)
+Fails (Range at) read = read ≡ Err (Range at)
+Fails (TooDeep at) read = read ≡ Err (TooDeep at)
+Fails (Syntax at) read = read ≡ Err (Syntax at)
+
+abbrev pub Gives : {X Y : Type 0} → (X → Y) → Result X ParseError → Result Y ParseError → Type 0
+Gives view (Ok x) read = read ≡ Ok (view x)
+Gives view (Err e) read = Fails e read
+
+abbrev pub Passes : Result (Bor (List Placed)) ParseError → Result (List Placed) ParseError → Type 0
+Passes (Ok x) read = read ≡ Ok x.now
+Passes (Err e) read = read ≡ Err e
+
+-- a fact of what was given
+abbrev pub Holds : {X : Type 0} → (X → Type 0) → Result X ParseError → Type 0
+Holds P (Ok x) = P x
+Holds P (Err e) = e ≡ Memory

@@ -1,0 +1,10 @@
+pub mod Operators
+pub mod Grammar
+pub mod Reading
+pub mod Gives
+pub mod Misfit
+pub mod Canon
+pub mod ExprText
+pub mod Spelling
+pub mod AdText
+pub mod AdLines

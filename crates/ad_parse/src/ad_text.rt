@@ -1,0 +1,155 @@
+// From a text to an ad.
+
+ghost use Rattle.std.specs.Prelude.{◌≡◌, ◌≤◌, length};
+ghost use Rattle.std.specs.List.{prefix_len, suffix_len};
+ghost use Rattle.std.specs.Option.{option_map};
+ghost use Rattle.ad_tree.specs.Tree.{tree};
+ghost use Rattle.ad_token.specs.Lexing.{is_blank};
+ghost use Rattle.ad_parse.specs.ExprText.{expression_at};
+ghost use Rattle.ad_parse.specs.AdText.{GivesAd, ad_at, with_line, with_expression, unless_refused, at_line, is_skipped, is_attribute_name, setting, setting_from, around_sign, past_blanks, trimmed_end, trimmed};
+
+use crate::error::{AdError, ParseError};
+use crate::expression::read;
+use ad_token::{MAX_NAME, is_blank, name_length, word};
+use ad_tree::{Ad, Expr, SetError};
+use std::alloc::Global;
+
+/// The ad that a text says, with one attribute, `Name = expression`, a line; lines of blanks alone and lines that begin with `#` are
+/// skipped (HTCondor manual, "ClassAd syntax"). A later line of a name replaces the expression of the earlier one. Takes time that
+/// grows as the text.
+pub fn parse_ad(alloc: Global, text: &str) -> Result<Ad, AdError>
+    ensures { GivesAd (λ a. a) result (ad_at text.now) }
+{
+    let mut ad = Ad::new(alloc);
+    let mut number = 1u32;
+    for line in text.split('\n') {
+        read_line(alloc, &mut ad, number, line)?;
+        number = number.saturating_add(1);
+    }
+    Ok(ad)
+}
+
+// Takes a line into the ad.
+fn read_line(alloc: Global, ad: &mut Ad, number: u32, line: &str) -> Result<(), AdError>
+    ensures { GivesAd (λ _. ad.new) result (with_line number ad.old line.now) }
+{
+    if is_skipped(line) {
+        return Ok(());
+    }
+    let Some((name, text)) = setting(line) else {
+        return Err(AdError::BadLine { line: number });
+    };
+    read_setting(alloc, ad, number, name, text)
+}
+
+// Puts what the text says under the name.
+fn read_setting(
+    alloc: Global,
+    ad: &mut Ad,
+    number: u32,
+    name: &str,
+    text: &str,
+) -> Result<(), AdError>
+    ensures { GivesAd (λ _. ad.new) result (unless_refused (at_line number (expression_at text.now)) (with_expression number ad.old name.now)) }
+{
+    let expr = read_expr(alloc, number, text)?;
+    set(alloc, ad, number, name, expr)
+}
+
+fn read_expr(alloc: Global, number: u32, text: &str) -> Result<Expr, AdError>
+    ensures { GivesAd tree result (at_line number (expression_at text.now)) }
+{
+    match read(alloc, text) {
+        Ok(expr) => Ok(expr),
+        Err(ParseError::Memory) => Err(AdError::Memory),
+        Err(error) => Err(AdError::Expr {
+            line: number,
+            error,
+        }),
+    }
+}
+
+fn set(alloc: Global, ad: &mut Ad, number: u32, name: &str, expr: Expr) -> Result<(), AdError>
+    ensures { GivesAd (λ _. ad.new) result (with_expression number ad.old name.now (tree expr)) }
+{
+    match ad.set(alloc, name, expr) {
+        Ok(()) => Ok(()),
+        Err(SetError::Full) => Err(AdError::Full { line: number }),
+        Err(SetError::Memory) => Err(AdError::Memory),
+    }
+}
+
+// Whether a line says nothing.
+fn is_skipped(line: &str) -> bool
+    ensures { result ≡ is_skipped line.now }
+{
+    line.starts_with('#') || past_blanks(line).is_empty()
+}
+
+// The name that a line sets, and the text of its expression.
+fn setting(line: &str) -> Option<(&str, &str)>
+    ensures { option_map (λ s. (s.0.now, s.1.now)) result ≡ setting line.now }
+{
+    setting_from(past_blanks(line))
+}
+
+#[tactic(auto, using(crate::proofs::Blanks::name_boundary))]
+fn setting_from(text: &str) -> Option<(&str, &str)>
+    ensures { option_map (λ s. (s.0.now, s.1.now)) result ≡ setting_from text.now }
+{
+    let (name, after) = text.split_at(name_length(text.as_bytes()));
+    around_sign(name, past_blanks(after))
+}
+
+#[tactic(auto, using(crate::proofs::Blanks::past_first))]
+fn around_sign<'a>(name: &'a str, after: &'a str) -> Option<(&'a str, &'a str)>
+    ensures { option_map (λ s. (s.0.now, s.1.now)) result ≡ around_sign name.now after.now }
+{
+    if !is_attribute_name(name) || !after.starts_with('=') {
+        return None;
+    }
+    Some((name, trimmed(&after[1..])))
+}
+
+// Whether an attribute may have this name.
+fn is_attribute_name(name: &str) -> bool
+    ensures { result ≡ is_attribute_name name.now }
+{
+    !name.is_empty() && name.len() <= MAX_NAME && word(name).is_none()
+}
+
+fn trimmed(text: &str) -> &str
+    ensures { result.now ≡ trimmed text.now }
+{
+    trimmed_end(past_blanks(text))
+}
+
+#[tactic(auto, using(crate::proofs::Blanks::front_boundary))]
+fn past_blanks(text: &str) -> &str
+    ensures { result.now ≡ past_blanks text.now }
+{
+    &text[blanks_before(text.as_bytes())..]
+}
+
+#[tactic(auto, using(crate::proofs::Blanks::back_boundary))]
+fn trimmed_end(text: &str) -> &str
+    ensures { result.now ≡ trimmed_end text.now }
+{
+    &text[..text.len() - blanks_behind(text.as_bytes())]
+}
+
+// How many blanks stand at the front.
+fn blanks_before(bytes: &[u8]) -> usize
+    ensures value { result ≡ prefix_len is_blank bytes.now }
+    ensures within { result ≤ length bytes.now }
+{
+    bytes.iter().take_while(|b| is_blank(**b)).count()
+}
+
+// How many blanks stand at the end.
+fn blanks_behind(bytes: &[u8]) -> usize
+    ensures value { result ≡ suffix_len is_blank bytes.now }
+    ensures within { result ≤ length bytes.now }
+{
+    bytes.iter().rev().take_while(|b| is_blank(**b)).count()
+}
