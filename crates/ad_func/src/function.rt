@@ -1,4 +1,5 @@
-ghost use Rattle.std.specs.Prelude.{◌≡◌};
+ghost use Rattle.std.specs.Prelude.{◌≡◌, Some};
+ghost use Rattle.ad_func.specs.declared.function.Function.{Function};
 ghost use Rattle.ad_func.specs.Function.{name_of, function_named};
 
 /// What an `is..` function asks for.
@@ -93,3 +94,8 @@ impl Function {
             .find(|function| function.name().eq_ignore_ascii_case(name))
     }
 }
+
+/// Each function is found by its name.
+pub fn each_is_named()
+    ensures { (f : Function) → function_named (name_of f) ≡ Some f }
+{}

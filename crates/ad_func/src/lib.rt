@@ -11,4 +11,5 @@ mod table;
 mod tests;
 mod texts;
 
+pub use function::each_is_named;
 pub use table::call;
