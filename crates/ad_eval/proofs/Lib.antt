@@ -1,0 +1,6 @@
+mod NumberLemmas
+mod SameLemmas
+mod FindLemmas
+mod LookLemmas
+mod PlaceLemmas
+pub mod MatchLemmas

@@ -1,0 +1,39 @@
+-- What a name means, one reference at a time.
+use Rattle.std.proofs.Common.{◌≡◌, ℕ, zero, suc, ◌-◌, ◌<◌, ◌≤◌, List, [], ◌∷◌, ◌++◌, length, Option, Some, None, true, refl, ap, ◌∙◌, arith, rules}
+use Rattle.ad_value.specs.declared.value.Value.{the_lemmas}
+use Rattle.ad_value.specs.declared.value.Value.TheVariants as value
+use Rattle.ad_value.specs.Content.{Content, content, undefined, error}
+use Rattle.ad_tree.specs.Tree.{Tree}
+use Rattle.ad_tree.specs.declared.operator.Scope.{Scope}
+use Rattle.ad_eval.specs.declared.sides.Side.{Side}
+use Rattle.ad_eval.specs.Mean.{Ads, Progress, look, look_found, looked, found, value_of, is_among}
+
+pub look_none : (n : ℕ) (ads : Ads) (s : Side) (now : ℕ) (b : Progress) (c : Scope) (x : List ℕ) → n ≡ 0 → look n ads s now b c x ≡ error
+unfolding look
+look_none zero ads s now b c x e = refl
+look_none (suc n) ads s now b c x e = absurd (omega arith)
+
+pub look_more : (n : ℕ) (ads : Ads) (s : Side) (now : ℕ) (b : Progress) (c : Scope) (x : List ℕ) → 0 < n → look n ads s now b c x ≡ look_found (λ q i e. value_of (look (n - 1) ads q now (b ++ (q, i) ∷ [])) now e) b (found ads s c x)
+unfolding look
+look_more zero ads s now b c x e = absurd (omega arith)
+look_more (suc n) ads s now b c x e = let m : suc n - 1 ≡ n = omega arith in rw m refl
+
+-- where 32 are in progress
+pub looked_none : (ads : Ads) (s : Side) (now : ℕ) (b : Progress) (c : Scope) (x : List ℕ) → 32 ≤ length b → looked ads s now b c x ≡ error
+looked_none ads s now b c x h = look_none (32 - length b) ads s now b c x (omega arith)
+
+pub looked_missing : (ads : Ads) (s : Side) (now : ℕ) (b : Progress) (c : Scope) (x : List ℕ) → length b < 32 → found ads s c x ≡ None → looked ads s now b c x ≡ undefined
+looked_missing ads s now b c x h none = look_more (32 - length b) ads s now b c x (omega arith) ∙ ap (look_found _ b) none
+
+in_progress : (mean : Side → ℕ → Tree → Content) (b : Progress) (o : Option (Side × ℕ × Tree)) (f : Side × ℕ × Tree) → o ≡ Some f → is_among f.0 f.1 b ≡ true → look_found mean b o ≡ error
+in_progress mean b o f there again = rw (there, again) refl
+
+pub looked_again : (ads : Ads) (s : Side) (now : ℕ) (b : Progress) (c : Scope) (x : List ℕ) → length b < 32 → (f : Side × ℕ × Tree) → found ads s c x ≡ Some f → is_among f.0 f.1 b ≡ true → looked ads s now b c x ≡ error
+looked_again ads s now b c x h f there again = look_more (32 - length b) ads s now b c x (omega arith) ∙ in_progress _ b _ f there again
+
+-- the values that code gives
+pub error_is : content value.Error ≡ error
+error_is = search (rules, the_lemmas)
+
+pub undefined_is : content value.Undefined ≡ undefined
+undefined_is = search (rules, the_lemmas)
