@@ -1,4 +1,5 @@
 use super::*;
+use std::path::{Path, PathBuf};
 use std::rt::Clock;
 use std::test::Fail;
 use std::time::Duration;
@@ -52,15 +53,37 @@ fn ending_of<P: Spawner>(
     Ok((5000, ChildState::Running))
 }
 
+fn scripts(alloc: Global) -> Result<Vec<Script>, Fail> {
+    let mut scripts = Vec::new(alloc);
+    for (program, looks, end) in [
+        ("two", 2, ChildEnd::Exited(3)),
+        ("two", 0, ChildEnd::Exited(4)),
+        ("signal", 1, ChildEnd::Signalled(11)),
+    ] {
+        scripts.push(script(alloc, program, looks, end)?)?;
+    }
+    Ok(scripts)
+}
+
+// How a new child of that program ends, and at which look, where it is killed before that one.
+fn ended<P: Spawner>(
+    rt: &impl Clock,
+    alloc: Global,
+    spawner: &mut P,
+    (program, words): (&str, &str),
+    kill_before: Option<usize>,
+) -> Result<(usize, ChildState), SpawnError> {
+    let what = match launch_of(alloc, program, words) {
+        Ok(what) => what,
+        Err(_) => return Err(SpawnError::Memory),
+    };
+    ending_of(rt, alloc, spawner, &what, kill_before)
+}
+
 #[test]
 fn a_child_in_memory_ends_as_its_script_says(rt: HostRuntime) -> Result<(), Fail> {
     let alloc = rt.alloc();
-    let scripts = vec![in alloc;
-        script(alloc, "two", 2, ChildEnd::Exited(3))?,
-        script(alloc, "two", 0, ChildEnd::Exited(4))?,
-        script(alloc, "signal", 1, ChildEnd::Signalled(11))?,
-    ]?;
-    let mut spawner = SureSpawner::new(alloc, scripts);
+    let mut spawner = SureSpawner::new(alloc, scripts(alloc)?);
     for (program, kill_before, look, state) in [
         ("two", None, 2, ChildState::Exited(3)),
         ("two", Some(1), 1, ChildState::Signalled(9)),
@@ -68,27 +91,38 @@ fn a_child_in_memory_ends_as_its_script_says(rt: HostRuntime) -> Result<(), Fail
         ("other", None, 0, ChildState::Exited(0)),
         ("other", Some(0), 0, ChildState::Signalled(9)),
     ] {
-        let what = launch_of(alloc, program, "")?;
-        let got = ending_of(&rt, alloc, &mut spawner, &what, kill_before)?;
+        let got = ended(&rt, alloc, &mut spawner, (program, ""), kill_before);
         assert_eq!(rt;
             got,
-            (look, state),
+            Ok((look, state)),
             "{program}, killed before {kill_before:?}"
         );
     }
     Ok(())
 }
 
+fn only(alloc: Global, call: u64) -> Result<Vec<u64>, Fail> {
+    Ok(vec![in alloc; call]?)
+}
+
+// A spawner of which the first launch, the second poll and the first kill fail.
+fn failing(alloc: Global) -> Result<MemSpawner, Fail> {
+    let launches = only(alloc, 0)?;
+    let polls = only(alloc, 1)?;
+    let kills = only(alloc, 0)?;
+    let fails = FailingSpawns {
+        launches,
+        polls,
+        kills,
+    };
+    Ok(MemSpawner::new(alloc, Vec::new(alloc), fails))
+}
+
 #[test]
 fn the_launches_polls_and_kills_of_the_lists_fail(rt: HostRuntime) -> Result<(), Fail> {
     let alloc = rt.alloc();
-    let fails = FailingSpawns {
-        launches: vec![in alloc; 0]?,
-        polls: vec![in alloc; 1]?,
-        kills: vec![in alloc; 0]?,
-    };
-    let mut spawner = MemSpawner::new(alloc, Vec::new(alloc), fails);
     let what = launch_of(alloc, "a", "")?;
+    let mut spawner = failing(alloc)?;
     assert_eq!(rt; spawner.launch(alloc, &what), Err(SpawnError::Failed));
     let child = spawner.launch(alloc, &what)?;
     assert_eq!(rt; child, 0);
@@ -104,7 +138,7 @@ fn the_launches_polls_and_kills_of_the_lists_fail(rt: HostRuntime) -> Result<(),
 }
 
 #[test]
-fn programs_of_the_system_end_as_they_do(rt: HostRuntime) -> Result<(), Fail> {
+fn programs_of_the_system_end_as_they_do(rt: HostRuntime) {
     let alloc = rt.alloc();
     let mut spawner = ChildSpawner::new(alloc, &rt);
     for (program, words, kill_before, want) in [
@@ -125,27 +159,57 @@ fn programs_of_the_system_end_as_they_do(rt: HostRuntime) -> Result<(), Fail> {
         ("/bin/sleep", "100", Some(0), Ok(ChildState::Signalled(9))),
         ("/no/such/program", "", None, Err(SpawnError::Failed)),
     ] {
-        let what = launch_of(alloc, program, words)?;
-        let got = ending_of(&rt, alloc, &mut spawner, &what, kill_before);
+        let got = ended(&rt, alloc, &mut spawner, (program, words), kill_before);
         assert_eq!(rt; got.map(|(_, state)| state), want, "{program} {words}");
     }
+}
+
+// A shell's program in a folder, with the files that it reads and writes there.
+fn in_folder(alloc: Global, folder: &str, program: &str, errors: &str) -> Result<Launch, Memory> {
+    let mut what = launch_of(alloc, "/bin/sh", program)?;
+    what.folder = Text::from_str(alloc, folder)?;
+    what.input = Text::from_str(alloc, "in")?;
+    what.output = Text::from_str(alloc, "out")?;
+    what.errors = Text::from_str(alloc, errors)?;
+    Ok(what)
+}
+
+fn write(rt: &HostRuntime, folder: Path, name: &str, text: &str) -> Result<(), Fail> {
+    let path = folder.join(rt.alloc(), name)?;
+    fs::write(rt, path.as_path(), text)?;
     Ok(())
+}
+
+fn content(rt: &HostRuntime, folder: Path, name: &str) -> Result<String, Fail> {
+    let path = folder.join(rt.alloc(), name)?;
+    Ok(fs::read_to_string(rt, path.as_path())?)
+}
+
+// A new folder with a file to be read, and one to be written.
+fn folder(rt: &HostRuntime) -> Result<PathBuf, Fail> {
+    let alloc = rt.alloc();
+    let id = process::id(rt.process());
+    let name = format!(in alloc; "pool_outer_{id}_spawner")?;
+    let folder = env::temp_dir(rt)?.join(alloc, name.as_str())?;
+    fs::create_dir(rt, folder.as_path())?;
+    write(rt, folder.as_path(), "in", "read")?;
+    write(rt, folder.as_path(), "out", "what stood there before")?;
+    Ok(folder)
+}
+
+// How a program ends that is run in the folder.
+fn run_in(rt: &HostRuntime, folder: Path, program: &str, errors: &str) -> Result<ChildState, Fail> {
+    let alloc = rt.alloc();
+    let what = in_folder(alloc, folder.as_str(), program, errors)?;
+    let mut spawner = ChildSpawner::new(alloc, rt);
+    let (_, state) = ending_of(rt, alloc, &mut spawner, &what, None)?;
+    Ok(state)
 }
 
 #[test]
 fn a_program_reads_and_writes_the_files_of_its_folder(rt: HostRuntime) -> Result<(), Fail> {
-    let alloc = rt.alloc();
-    let id = process::id(rt.process());
-    let name = format!(in alloc; "pool_outer_{id}_spawner")?;
-    let folder = env::temp_dir(&rt)?.join(alloc, name.as_str())?;
-    fs::create_dir(&rt, folder.as_path())?;
-    fs::write(&rt, folder.join(alloc, "in")?.as_path(), "read")?;
-    fs::write(
-        &rt,
-        folder.join(alloc, "out")?.as_path(),
-        "what stood there before",
-    )?;
-    let mut spawner = ChildSpawner::new(alloc, &rt);
+    let folder = folder(&rt)?;
+    let path = folder.as_path();
     for (program, errors, out, err) in [
         ("-c|cat; echo said >&2", "err", "read", "said\n"),
         (
@@ -155,18 +219,10 @@ fn a_program_reads_and_writes_the_files_of_its_folder(rt: HostRuntime) -> Result
             "said\n",
         ),
     ] {
-        let mut what = launch_of(alloc, "/bin/sh", program)?;
-        what.folder = Text::from_str(alloc, folder.as_str())?;
-        what.input = Text::from_str(alloc, "in")?;
-        what.output = Text::from_str(alloc, "out")?;
-        what.errors = Text::from_str(alloc, errors)?;
-        let (_, state) = ending_of(&rt, alloc, &mut spawner, &what, None)?;
-        assert_eq!(rt; state, ChildState::Exited(0), "{program}");
-        let written = fs::read_to_string(&rt, folder.join(alloc, "out")?.as_path())?;
-        assert_eq!(rt; written.as_str(), out, "{program}");
-        let written = fs::read_to_string(&rt, folder.join(alloc, "err")?.as_path())?;
-        assert_eq!(rt; written.as_str(), err, "{program}");
+        assert_eq!(rt; run_in(&rt, path, program, errors)?, ChildState::Exited(0));
+        assert_eq!(rt; content(&rt, path, "out")?.as_str(), out, "{program}");
+        assert_eq!(rt; content(&rt, path, "err")?.as_str(), err, "{program}");
     }
-    fs::remove_dir_all(&rt, folder.as_path())?;
+    fs::remove_dir_all(&rt, path)?;
     Ok(())
 }
