@@ -1,7 +1,7 @@
 -- Histories grow by one event at a time.
 use Rattle.std.proofs.Common.{◌≡◌, subst, refl, List, [], ◌∷◌, ◌++◌}
 use Rattle.pool_core.specs.declared.history.Step.{Step}
-use Rattle.pool_core.specs.declared.pool.Pool.{Pool}
+use Rattle.pool_core.specs.PoolValue.{PoolValue as Pool}
 use Rattle.pool_core.specs.Reactions.{after}
 use Rattle.pool_core.specs.Histories.{Reacts, LeadsTo}
 

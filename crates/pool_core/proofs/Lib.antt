@@ -1,4 +1,9 @@
+pub mod Adding
+pub mod Consistent
+pub mod Entries
 pub mod Growing
 pub mod Moving
+pub mod Same
 pub mod Showing
 pub mod Steps
+pub mod Tables

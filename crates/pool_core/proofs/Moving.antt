@@ -1,37 +1,41 @@
 -- Each event of a pool makes its abstract steps, and each pool of a history is safe.
-use Rattle.std.proofs.Common.{◌≡◌, ◌≢◌, ℕ, ◌<◌, ◌≤◌, ◌⊎◌, inl, inr, List, [], ◌∷◌, ◌++◌, Option, Some, None, Bool, true, false, ◌&&◌, ◌==◌, max, refl, sym, ap, subst, arith, if◌then◌else◌, IsSomeAnd}
-use Rattle.std.specs.Prelude.{nat_lt}
-use Rattle.std.proofs.lemmas.Bool.{eqb-true, ltb-true, ltb-false}
+use Rattle.std.proofs.Common.{◌≡◌, ◌≢◌, ℕ, ◌+◌, ◌<◌, ◌≤◌, ◌⊎◌, inl, inr, List, [], ◌∷◌, ◌++◌, map, filter, Option, Some, None, Bool, true, false, true≢false, ◌&&◌, ◌==◌, not, max, refl, sym, ◌∙◌, ap, subst, arith, append_assoc, eq-eqb, if◌then◌else◌, IfSome, IsSome, IsSomeAnd, is_some}
+use Rattle.std.specs.Prelude.{nat_lt, option_map}
+use Rattle.std.specs.List.{filter_map}
+use Rattle.std.proofs.lemmas.List.{append-nil}
+use Rattle.std.proofs.lemmas.List.Elements.{filter_map-append}
+use Rattle.std.proofs.lemmas.Bool.{ltb-true, ltb-false}
+use Rattle.ad_tree.specs.Ad.{Attributes}
+use Rattle.ad_eval.specs.Judgement.{Judgement}
 use Rattle.pool_core.specs.declared.event.End.{End}
 use Rattle.pool_core.specs.declared.event.End.TheVariants.{Exited, Signalled, NotStarted}
 use Rattle.pool_core.specs.declared.event.Event.{Event}
 use Rattle.pool_core.specs.declared.event.Event.TheVariants as event
-use Rattle.pool_core.specs.declared.answer.StepError.TheVariants as error
 use Rattle.pool_core.specs.declared.history.Step.{Step}
-use Rattle.pool_core.specs.declared.memory_match.MemoryMatch.{MemoryMatch}
-use Rattle.pool_core.specs.declared.pool.Job.{Job}
-use Rattle.pool_core.specs.declared.pool.Phase.{Phase}
-use Rattle.pool_core.specs.declared.pool.Phase.TheVariants as phase
-use Rattle.pool_core.specs.declared.pool.Pool.{Pool}
-use Rattle.pool_core.specs.AbstractPool.{Held, EndedBy, Entry, Run, Said, AbstractPool, IsIn, SameMembers, SameView, SlotMark, IsSpentBy, IsUsed, KeepsSpent, set}
-use Rattle.pool_core.specs.AbstractStep.{AbstractStep, Time, Queue, Acknowledge, Grant, Start, Stop, Free, Finish, Takes}
+use Rattle.pool_core.specs.declared.job.Job.{Job}
+use Rattle.pool_core.specs.declared.job.Phase.{Phase}
+use Rattle.pool_core.specs.declared.job.Phase.TheVariants as phase
+use Rattle.pool_core.specs.declared.job.Run.{Run as SlotRun}
+use Rattle.pool_core.specs.declared.job.RunName.{RunName}
+use Rattle.pool_core.specs.declared.numbers.JobId.{JobId}
+use Rattle.pool_core.specs.declared.numbers.SlotId.{SlotId}
+use Rattle.pool_core.specs.declared.slot.SlotAd.{SlotAd}
+use Rattle.pool_core.specs.Ads.{core_of}
+use Rattle.pool_core.specs.AbstractPool.{How, State, Idle, Under, Run, Said, AbstractPool, IsIn, SameMembers, SameView, SlotMark, IsSpentBy, IsDead, IsUsed, KeepsSpent, Stands, HasCore, set}
+use Rattle.pool_core.specs.AbstractStep.{AbstractStep, Time, Stop, IsOver, changed_entry, changed_job, made, Takes}
 use Rattle.pool_core.specs.Events.{reading_of}
 use Rattle.pool_core.specs.Histories.{LeadsTo}
-use Rattle.pool_core.specs.Moving.{time_to, steps_of, EachMoves}
-use Rattle.pool_core.specs.Numbers.{JobId, RunNo, same_job, same_slot}
-use Rattle.pool_core.specs.Reactions.{opening_pool, refusal, open_refusal, after, job_after}
+use Rattle.pool_core.specs.Moving.{time_to, submit_steps, start_steps, end_step, stop_steps, end_steps, own_steps, steps_of, EachMoves}
+use Rattle.pool_core.specs.Numbers.{RunNo, same_job, same_run}
+use Rattle.pool_core.specs.PoolValue.{PoolValue, job_at, run_at, slot_at, IsConsistent}
+use Rattle.pool_core.specs.Reactions.{opening_pool, refusal, open_refusal, is_judged, run_of_job, numbered_jobs, with_phase, without_run, phase_after, run_named, ended_with, after}
 use Rattle.pool_core.specs.Safe.{Safe, RunsLeased}
-use Rattle.pool_core.proofs.Steps.{both_true, takes_safe}
-use Rattle.pool_core.specs.View.{the_job, the_slot, the_claim, the_run, run_of, marks_after, state_of, how_of, said_with, acked_in, runs_in, said_in, view_of}
-
-abbrev job : List ℕ → ℕ → Phase → Option Job
-job program request ph = Some (record { program = program; memory = request; phase = ph })
-
-abbrev pool : List ℕ → ℕ → ℕ → Option Job → Bool → Pool
-pool name memory latest job closed = record { name = name; memory = memory; latest = latest; job = job; closed = closed }
-
-abbrev entry : ℕ → Phase → Entry
-entry request ph = record { core = request; state = state_of ph }
+use Rattle.pool_core.specs.Sameness.{same_ad}
+use Rattle.pool_core.specs.View.{run_no, how_of, run_of, state_of, entry_of, said_of, mark_after, marks_after, view_of}
+use Rattle.pool_core.proofs.Consistent.{opened, Startable, startable, idle_there, runs_there, own_run_of, some_run, after_consistent, opening_consistent}
+use Rattle.pool_core.proofs.Same.{same_ad-true}
+use Rattle.pool_core.proofs.Steps.{both_true, same_job-true, changed_core, takes_safe}
+use Rattle.pool_core.proofs.Tables.{jobs_told, no_others, value_at-new, value_at-old, in_phase, job_at-own, job_at-other, map-with_phase, AreBefore, free_before, before_next, in_runs, run_in_runs, in_snoc, passes_filter, stopped_runs, said_in, IsSilent, said_unchanged, said_more, same_members}
 
 -- A step of time is left out where the reading isn't later.
 timed : (v w : AbstractPool) (reading : ℕ) (ks : List AbstractStep) → Takes (record v { moment = max v.moment reading }) ks w → Takes v (time_to v.moment reading ++ ks) w
@@ -47,229 +51,364 @@ timed v w reading ks rest = by_test (nat_lt v.moment reading) refl
         let greatest : max v.moment reading ≡ v.moment = omega arith in
         subst (λ m. Takes (record v { moment = m }) ks w) greatest rest
 
-same_members : {A : Type 0} (xs : List A) → SameMembers xs xs
-same_members xs x = (λ there. there, λ there. there)
-
--- two writes to the job's place are the last one
-set_twice : (a b : Option Entry) (q : JobId) → set same_job (λ j. None) the_job b q ≡ set same_job (set same_job (λ j. None) the_job a) the_job b q
-set_twice a b q = by_test (same_job q the_job)
-  where
-    by_test : (t : Bool) → (if t then b else None) ≡ (if t then b else (if t then a else None))
-    by_test true = refl
-    by_test false = refl
-
-passes : (b : Bool) → (if b then None else Some error.AdMoved) ≡ None → b ≡ true
-passes true h = refl
-passes false h = cc
-
-judged_both : (request slot : ℕ) (judged : MemoryMatch) → (if (judged.request == request) && (judged.slot == slot) then None else Some error.AdMoved) ≡ None → (judged.request ≡ request) × (judged.slot ≡ slot)
-judged_both request slot judged ok =
-    let both = both_true (judged.request == request) (judged.slot == slot) (passes ((judged.request == request) && (judged.slot == slot)) ok) in
-    (eqb-true judged.request request both.0, eqb-true judged.slot slot both.1)
-
-abbrev view : ℕ → ℕ → Option Job → AbstractPool
-view memory latest at = view_of (pool [] memory latest at false)
-
--- the event makes its steps, from the pool with this job to the next
-abbrev Makes : ℕ → ℕ → Option Job → Event → Type 0
-Makes memory latest at e = Takes (view memory latest at) (steps_of (pool [] memory latest at false) e) (view memory (max latest (reading_of e)) (job_after at e))
-
-submitted : (memory latest : ℕ) (program : List ℕ) (request reading : ℕ) → Makes memory latest None (event.Submit program request reading)
-submitted memory latest program request reading =
-    timed (view memory latest None) (view memory (max latest reading) (job program request phase.Idle)) reading (Queue the_job request ∷ Acknowledge the_job ∷ []) (
-      refl,
+-- ---- Submit
+-- each is queued, and then acknowledged
+submit_takes : (ads : List Attributes) (cluster proc : ℕ) (jobs : List (JobId × Job)) (v w : AbstractPool)
+    → AreBefore cluster proc jobs
+    → ((q : JobId) → v.jobs q ≡ option_map entry_of (job_at q jobs))
+    → ((q : JobId) → w.jobs q ≡ option_map entry_of (job_at q (jobs ++ numbered_jobs cluster proc ads)))
+    → SameMembers v.acked (map (λ e. e.0) jobs)
+    → SameMembers (map (λ e. e.0) (jobs ++ numbered_jobs cluster proc ads)) w.acked
+    → SameView (record v { jobs = w.jobs; acked = w.acked }) w
+    → Takes v (submit_steps (numbered_jobs cluster proc ads)) w
+submit_takes [] cluster proc jobs v w before has gets acked more same = record {
+  moment = same.moment;
+  next = same.next;
+  jobs = λ q. gets q ∙ ap (λ l. option_map entry_of (job_at q l)) (append-nil jobs) ∙ sym (has q);
+  acked = λ q. (λ h. (more q).0 (subst (λ l. IsIn q (map (λ e. e.0) l)) (sym (append-nil jobs)) ((acked q).0 h)), λ h. (acked q).1 (subst (λ l. IsIn q (map (λ e. e.0) l)) (append-nil jobs) ((more q).1 h)));
+  ordered = same.ordered;
+  runs = same.runs;
+  marks = same.marks;
+  said = same.said;
+  slots = same.slots;
+}
+submit_takes (ad ∷ ads) cluster proc jobs v w before has gets acked more same =
+    let next_jobs : List (JobId × Job) = jobs ++ (new, j) ∷ [] in
+    let whole : next_jobs ++ numbered_jobs cluster (proc + 1) ads ≡ jobs ++ numbered_jobs cluster proc (ad ∷ ads) = append_assoc jobs ((new, j) ∷ []) (numbered_jobs cluster (proc + 1) ads) in (
+      has new ∙ ap (option_map entry_of) free,
       (
-        refl,
-        record {
-          moment = refl;
-          next = refl;
-          jobs = λ q. refl;
-          acked = same_members (the_job ∷ []);
-          ordered = same_members [];
-          runs = same_members [];
-          marks = λ q. refl;
-          said = same_members [];
-          slots = λ q. refl;
-        },
+        subst IsSome (sym (queued new ∙ ap (option_map entry_of) (value_at-new jobs_told new j jobs free))) refl,
+        submit_takes ads cluster (proc + 1) next_jobs (record v { jobs = set same_job v.jobs new (Some (record { core = core_of ad; state = Idle })); acked = new ∷ v.acked }) w
+            (before_next cluster proc j jobs before)
+            queued
+            (λ q. gets q ∙ ap (λ l. option_map entry_of (job_at q l)) (sym whole))
+            acked_too
+            (λ q. (λ h. (more q).0 (subst (λ l. IsIn q (map (λ e. e.0) l)) whole h), λ h. subst (λ l. IsIn q (map (λ e. e.0) l)) (sym whole) ((more q).1 h)))
+            (record { moment = same.moment; next = same.next; jobs = same.jobs; acked = same.acked; ordered = same.ordered; runs = same.runs; marks = same.marks; said = same.said; slots = same.slots }),
       ),
     )
+  where
+    new : JobId
+    new = record { cluster = cluster; proc = proc }
 
-unspent : IsSpentBy (marks_after 0) the_run → ⊥
-unspent (inl h) = omega arith
-unspent (inr (inl h)) = omega (arith, h.1)
-unspent (inr (inr h)) = omega (arith, h.1)
+    j : Job
+    j = record { ad = ad; phase = phase.Idle }
 
-abbrev mark : ℕ → SlotMark
-mark last = record { boot = 0; ended = 0; held = Some (record { claim = the_claim; last = last }) }
+    free : job_at new jobs ≡ None
+    free = free_before cluster proc jobs before
+
+    queued : (q : JobId) → set same_job v.jobs new (Some (record { core = core_of ad; state = Idle })) q ≡ option_map entry_of (job_at q (jobs ++ (new, j) ∷ []))
+    queued q = by (same_job q new) refl
+      where
+        by : (b : Bool) → same_job q new ≡ b → (if b then Some (record { core = core_of ad; state = Idle }) else v.jobs q) ≡ option_map entry_of (job_at q (jobs ++ (new, j) ∷ []))
+        by true is = sym (ap (λ k. option_map entry_of (job_at k (jobs ++ (new, j) ∷ []))) (same_job-true q new is) ∙ ap (option_map entry_of) (value_at-new jobs_told new j jobs free))
+        by false is = has q ∙ ap (option_map entry_of) (sym (value_at-old jobs_told q new j jobs (no_others jobs_told q new is)))
+
+    keys-snoc : (l : List (JobId × Job)) → map (λ e. e.0) (l ++ (new, j) ∷ []) ≡ map (λ e. e.0) l ++ new ∷ []
+    keys-snoc [] = refl
+    keys-snoc (x ∷ xs) = ap (λ m. x.0 ∷ m) (keys-snoc xs)
+
+    before_new : (q : JobId) → IsIn q (new ∷ v.acked) → IsIn q (new ∷ map (λ e. e.0) jobs)
+    before_new q (inl e) = inl e
+    before_new q (inr h) = inr ((acked q).0 h)
+
+    and_back : (q : JobId) → IsIn q (new ∷ map (λ e. e.0) jobs) → IsIn q (new ∷ v.acked)
+    and_back q (inl e) = inl e
+    and_back q (inr h) = inr ((acked q).1 h)
+
+    acked_too : SameMembers (new ∷ v.acked) (map (λ e. e.0) (jobs ++ (new, j) ∷ []))
+    acked_too q = (
+      λ h. subst (IsIn q) (sym (keys-snoc jobs)) ((in_snoc new (map (λ e. e.0) jobs) q).0 (before_new q h)),
+      λ h. and_back q ((in_snoc new (map (λ e. e.0) jobs) q).1 (subst (IsIn q) (keys-snoc jobs) h)),
+    )
+
+-- ---- what a job's new phase changes
+-- the entries are those of the abstract pool with the job's state changed
+rephased : (p : PoolValue) (job : JobId) (ph : Phase) (q : JobId) → option_map entry_of (job_at q (with_phase job ph p.jobs)) ≡ (changed_job (view_of p) job (λ _. state_of ph)).jobs q
+rephased p job ph q = by (same_job q job) refl
+  where
+    own : (o : Option Job) → option_map entry_of (option_map (in_phase ph) o) ≡ option_map (changed_entry (λ _. state_of ph)) (option_map entry_of o)
+    own None = refl
+    own (Some j) = refl
+
+    by : (b : Bool) → same_job q job ≡ b → option_map entry_of (job_at q (with_phase job ph p.jobs)) ≡ (if b then option_map (changed_entry (λ _. state_of ph)) (option_map entry_of (job_at job p.jobs)) else option_map entry_of (job_at q p.jobs))
+    by true is = ap (λ k. option_map entry_of (job_at k (with_phase job ph p.jobs))) (same_job-true q job is) ∙ ap (option_map entry_of) (job_at-own job ph p.jobs) ∙ own (job_at job p.jobs)
+    by false is = ap (option_map entry_of) (job_at-other q job ph p.jobs (no_others jobs_told q job is))
+
+-- the same jobs were acknowledged
+same_acked : (job : JobId) (ph : Phase) (jobs : List (JobId × Job)) → SameMembers (map (λ e. e.0) jobs) (map (λ e. e.0) (with_phase job ph jobs))
+same_acked job ph jobs = subst (SameMembers (map (λ e. e.0) jobs)) (sym (map-with_phase (λ e. e.0) job ph jobs (λ e. refl))) (same_members (map (λ e. e.0) jobs))
+
+-- a job's state
+stands_in : (p : PoolValue) (job : JobId) (j : Job) (state : State) → job_at job p.jobs ≡ Some j → state_of j.phase ≡ state → Stands (view_of p) job state
+stands_in p job j state there is = subst (λ o. IsSomeAnd (option_map entry_of o) (λ e. e.state ≡ state)) (sym there) is
+
+-- ---- marks
+-- by the mark of a slot that is there, so many runs are spent
+spent_up_to : (slots : List SlotAd) (last : ℕ) (run : RunName) → IsSome (slot_at run.slot slots) → run.number ≤ last → IsSpentBy (marks_after slots last) (run_no run)
+spent_up_to slots last run there within = by (slot_at run.slot slots) there
+  where
+    by : (o : Option SlotAd) → IsSome o → IsSomeAnd (option_map (λ _. mark_after last run.slot) o) (λ m. (0 < m.boot) ⊎ (((0 ≡ m.boot) × (1 ≤ m.ended)) ⊎ IsUsed m.held (run_no run)))
+    by None h = absurd (true≢false (sym h))
+    by (Some s) h = inr (inr (refl, within))
+
+-- and the next is not
+unspent_after : (slots : List SlotAd) (last : ℕ) (run : RunName) → last < run.number → IsSpentBy (marks_after slots last) (run_no run) → ⊥
+unspent_after slots last run beyond spent = by (slot_at run.slot slots) spent
+  where
+    by : (o : Option SlotAd) → IsSomeAnd (option_map (λ _. mark_after last run.slot) o) (λ m. (0 < m.boot) ⊎ (((0 ≡ m.boot) × (1 ≤ m.ended)) ⊎ IsUsed m.held (run_no run))) → ⊥
+    by None h = h
+    by (Some s) (inl h) = omega (arith, h)
+    by (Some s) (inr (inl h)) = omega (arith, h.1)
+    by (Some s) (inr (inr h)) = omega (arith, beyond, h.1)
 
 abbrev SpentAt : RunNo → Option SlotMark → Type 0
-SpentAt run o = IsSomeAnd o (λ k. (run.claim.boot < k.boot) ⊎ (((run.claim.boot ≡ k.boot) × (run.claim.seq ≤ k.ended)) ⊎ IsUsed k.held run))
+SpentAt run o = IsSomeAnd o (λ m. (run.claim.boot < m.boot) ⊎ (((run.claim.boot ≡ m.boot) × (run.claim.seq ≤ m.ended)) ⊎ IsUsed m.held run))
 
--- the slot's mark loses no spent run as it uses numbers
-more_used : (m n : ℕ) → m ≤ n → KeepsSpent (marks_after m) (marks_after n)
-more_used m n more run = by_test (same_slot run.claim.slot the_slot)
+-- the slots' marks lose no spent run as the pool uses numbers
+more_used : (slots : List SlotAd) (m n : ℕ) → m ≤ n → KeepsSpent (marks_after slots m) (marks_after slots n)
+more_used slots m n more run spent = by (slot_at run.claim.slot slots) spent
   where
-    by_mark : SpentAt run (Some (mark m)) → SpentAt run (Some (mark n))
-    by_mark (inl h) = inl h
-    by_mark (inr (inl h)) = inr (inl h)
-    by_mark (inr (inr h)) = inr (inr (h.0, omega (arith, h.1)))
+    by : (o : Option SlotAd) → SpentAt run (option_map (λ _. mark_after m run.claim.slot) o) → SpentAt run (option_map (λ _. mark_after n run.claim.slot) o)
+    by None h = h
+    by (Some s) (inl h) = inl h
+    by (Some s) (inr (inl h)) = inr (inl h)
+    by (Some s) (inr (inr h)) = inr (inr (h.0, omega (arith, h.1)))
 
-    by_test : (t : Bool) → SpentAt run (if t then Some (mark m) else None) → SpentAt run (if t then Some (mark n) else None)
-    by_test true h = by_mark h
-    by_test false h = h
+-- ---- Start
+record Matched (a : Option Job) (b : Option SlotAd) (judged : Judgement) : Type 0 where
+  job : Job
+  slot : SlotAd
+  job_there : a ≡ Some job
+  slot_there : b ≡ Some slot
+  job_ad : judged.job ≡ job.ad
+  slot_ad : judged.slot ≡ slot.ad
 
-started : (memory latest : ℕ) (program : List ℕ) (request : ℕ) (judged : MemoryMatch) (reading : ℕ) → judged.request ≡ request → judged.slot ≡ memory
-    → Makes memory latest (job program request phase.Idle) (event.Start judged reading)
-started memory latest program request judged reading asks has =
-    timed (view memory latest (job program request phase.Idle)) (view memory (max latest reading) (job program request (phase.Running judged reading))) reading (Grant the_job the_run reading ∷ Start (run_of judged reading) (marks_after 1) ∷ []) (
-      (refl, refl),
-      (
-        (
-          record {
-            unspent = unspent;
-            new_number = λ s there. absurd there;
-            claimed = refl;
-            free = λ s there. absurd there;
-            leased = inl (omega arith);
-            slot_ad = ap Some (sym has);
-            job_ad = sym asks;
-            match = judged.fits;
-          },
-          inr (inr (refl, omega arith)),
-          more_used 0 1 (omega arith),
-        ),
-        record {
-          moment = refl;
-          next = refl;
-          jobs = set_twice (Some (entry request phase.Idle)) (Some (entry request (phase.Running judged reading)));
-          acked = same_members (the_job ∷ []);
-          ordered = same_members [];
-          runs = same_members (run_of judged reading ∷ []);
-          marks = λ q. refl;
-          said = same_members [];
-          slots = λ q. refl;
-        },
-      ),
-    )
+matched : (a : Option Job) (b : Option SlotAd) (reading : ℕ) (judged : Judgement) → is_judged a b reading judged ≡ true → Matched a b judged
+matched None b reading judged h = absurd (true≢false (sym h))
+matched (Some j) None reading judged h = absurd (true≢false (sym h))
+matched (Some j) (Some s) reading judged h =
+    let ads = (both_true (judged.at == reading) (same_ad judged.job j.ad && same_ad judged.slot s.ad) h).1 in
+    let both = both_true (same_ad judged.job j.ad) (same_ad judged.slot s.ad) ads in
+    record { job = j; slot = s; job_there = refl; slot_there = refl; job_ad = same_ad-true judged.job j.ad both.0; slot_ad = same_ad-true judged.slot s.ad both.1 }
 
--- the view after a run, with an entry of the job and what was said
-abbrev view_after : ℕ → ℕ → (JobId → Option Entry) → List Said → AbstractPool
-view_after memory moment jobs said = record {
-  moment = moment;
-  next = 2;
-  jobs = jobs;
-  acked = the_job ∷ [];
-  ordered = [];
-  runs = [];
-  marks = marks_after 1;
-  said = said;
-  slots = set same_slot (λ slot. None) the_slot (Some memory);
-}
+start_takes : (p : PoolValue) (job : JobId) (slot : SlotId) (judged : Judgement) (reading : ℕ) → IsConsistent p → Startable p job slot judged reading
+    → Takes (record (view_of p) { moment = max p.latest reading }) (start_steps p job slot judged reading) (view_of (after p (event.Start job slot judged reading)))
+start_takes p job slot judged reading is ok = (
+  (stands_in p job idle.0 Idle idle.1 (ap state_of idle.2), omega arith),
+  (
+    (
+      record {
+        unspent = unspent_after p.slots p.started run (omega arith);
+        new_number = new_number;
+        claimed = refl;
+        free = free;
+        leased = inl (omega arith);
+        slot_ad = ap (option_map (λ (s : SlotAd). s.ad)) its.slot_there ∙ ap Some (sym its.slot_ad);
+        job_ad = changed_core (view_of p) job (λ _. Under (run_no run) reading) job (core_of judged.job) core;
+        match = judged.fits;
+      },
+      spent_up_to p.slots (p.started + 1) run (ap is_some its.slot_there) (omega arith),
+      more_used p.slots p.started (p.started + 1) (omega arith),
+    ),
+    record {
+      moment = refl;
+      next = omega arith;
+      jobs = rephased p job (phase.Running run reading);
+      acked = same_acked job (phase.Running run reading) p.jobs;
+      ordered = same_members [];
+      runs = subst (SameMembers (run_of (slot, new) ∷ map run_of p.runs)) (sym (runs_snoc p.runs)) (in_snoc (run_of (slot, new)) (map run_of p.runs));
+      marks = λ q. refl;
+      said = subst (SameMembers (filter_map said_in p.jobs)) (sym (said_unchanged job (phase.Running run reading) idle.0 p.jobs idle.1 silent (λ q. refl))) (same_members (filter_map said_in p.jobs));
+      slots = λ q. refl;
+    },
+  ),
+)
+  where
+    run : RunName
+    run = run_named slot (p.started + 1)
 
-rewritten : (memory moment : ℕ) (old new : Option Entry) (said : List Said)
-    → SameView (view_after memory moment (set same_job (set same_job (λ j. None) the_job old) the_job new) said) (view_after memory moment (set same_job (λ j. None) the_job new) said)
-rewritten memory moment old new said = record {
+    new : SlotRun
+    new = record { job = job; number = p.started + 1; judged = judged; until = reading }
+
+    idle : (j : Job) × (job_at job p.jobs ≡ Some j) × (j.phase ≡ phase.Idle)
+    idle = idle_there (job_at job p.jobs) ok.idle
+
+    its : Matched (job_at job p.jobs) (slot_at slot p.slots) judged
+    its = matched (job_at job p.jobs) (slot_at slot p.slots) reading judged ok.its_match
+
+    silent : IsSilent idle.0.phase
+    silent q = ap (said_of q) idle.2
+
+    core : HasCore (view_of p) job (core_of judged.job)
+    core = subst (λ o. IsSomeAnd (option_map entry_of o) (λ e. e.core ≡ core_of judged.job)) (sym its.job_there) (ap core_of (sym its.job_ad))
+
+    runs_snoc : (runs : List (SlotId × SlotRun)) → map run_of (runs ++ (slot, new) ∷ []) ≡ map run_of runs ++ run_of (slot, new) ∷ []
+    runs_snoc [] = refl
+    runs_snoc (x ∷ xs) = ap (λ l. run_of x ∷ l) (runs_snoc xs)
+
+    new_number : (s : Run) → IsIn s (map run_of p.runs) → s.run.number ≢ p.started + 1
+    new_number s there e =
+        let found = in_runs s p.runs is.runs_once there in
+        let within : found.0.number ≤ p.started = subst (λ o. IfSome o (λ r. r.number ≤ p.started)) found.1 (is.run_numbers s.slot) in
+        let own : s.run.number ≡ found.0.number = ap (λ (x : Run). x.run.number) found.2 in
+        omega (arith, within, own, e)
+
+    free : (s : Run) → IsIn s (map run_of p.runs) → s.slot ≢ slot
+    free s there e =
+        let found = in_runs s p.runs is.runs_once there in
+        let both : Some found.0 ≡ None = sym found.1 ∙ ap (λ q. run_at q p.runs) e ∙ ok.free in
+        cc
+
+-- ---- Ended
+abbrev record_said : RunNo → JobId → How → Said
+record_said run job how = record { run = run; job = job; how = how }
+
+same_run-same : (a : RunNo) → same_run a a ≡ true
+same_run-same a = rw (eq-eqb a.claim.slot.machine a.claim.slot.machine refl, eq-eqb a.claim.slot.slot a.claim.slot.slot refl, eq-eqb a.claim.boot a.claim.boot refl, eq-eqb a.claim.seq a.claim.seq refl, eq-eqb a.number a.number refl) refl
+
+-- a job's run, as it is to end
+record Ending (p : PoolValue) (job : JobId) (run : RunName) : Type 0 where
+  job_is : Job
+  until : ℕ
+  job_there : job_at job p.jobs ≡ Some job_is
+  running : job_is.phase ≡ phase.Running run until
+  run_is : SlotRun
+  run_there : run_at run.slot p.runs ≡ Some run_is
+  its_job : run_is.job ≡ job
+  its_number : run_is.number ≡ run.number
+
+ending : (p : PoolValue) (job : JobId) (run : RunName) → IsConsistent p → run_of_job (job_at job p.jobs) ≡ Some run → Ending p job run
+ending p job run is has =
+    let r = runs_there (job_at job p.jobs) run has in
+    let own = own_run_of p job run is r in
+    record { job_is = r.job; until = r.until; job_there = r.there; running = r.running; run_is = own.run_there; run_there = own.at_slot; its_job = own.its_job; its_number = own.its_number }
+
+-- the pool once the run has stopped
+abbrev stopped : PoolValue → ℕ → SlotId → SlotRun → End → AbstractPool
+stopped p moment slot r end = made (record (view_of p) { moment = moment }) (Stop (run_of (slot, r)) (Some (how_of end)))
+
+dead_after : (p : PoolValue) (moment : ℕ) (job : JobId) (run : RunName) (end : End) → IsConsistent p → (e : Ending p job run) → IsDead (stopped p moment run.slot e.run_is end) (run_no run)
+dead_after p moment job run end is e = (
+  spent_up_to p.slots p.started run (is.placed run.slot (ap is_some e.run_there)) within,
+  gone,
+)
+  where
+    within : run.number ≤ p.started
+    within =
+        let h : e.run_is.number ≤ p.started = subst (λ o. IfSome o (λ r. r.number ≤ p.started)) e.run_there (is.run_numbers run.slot) in
+        omega (arith, h, e.its_number)
+
+    gone : (s : Run) → IsIn s (filter (λ s. not (same_run s.run (run_of (run.slot, e.run_is)).run)) (map run_of p.runs)) → s.run ≢ run_no run
+    gone s there same =
+        let passes = passes_filter (λ s. not (same_run s.run (run_of (run.slot, e.run_is)).run)) s (map run_of p.runs) there in
+        let own : s.run ≡ (run_of (run.slot, e.run_is)).run = same ∙ ap (λ n. run_no (run_named run.slot n)) (sym e.its_number) in
+        let fails : not (same_run s.run (run_of (run.slot, e.run_is)).run) ≡ false = ap not (ap (same_run s.run) (sym own) ∙ same_run-same s.run) in
+        absurd (true≢false (sym passes ∙ fails))
+
+-- what was said is of the run and its job
+the_said : (p : PoolValue) (job : JobId) (run : RunName) (how : How) (e : Ending p job run) → record_said (run_no run) job how ≡ record_said (run_of (run.slot, e.run_is)).run e.run_is.job how
+the_said p job run how e = ap (λ n. record_said (run_no (run_named run.slot n)) job how) (sym e.its_number) ∙ ap (λ q. record_said (run_of (run.slot, e.run_is)).run q how) (sym e.its_job)
+
+said_after : (run : RunName) (job : JobId) (end : End) → said_of job (phase_after run end) ≡ Some (record_said (run_no run) job (how_of end))
+said_after run job (Exited code) = refl
+said_after run job (Signalled signal) = refl
+said_after run job NotStarted = refl
+
+-- after both steps it is the next pool
+same_after : (p : PoolValue) (reading : ℕ) (job : JobId) (run : RunName) (end : End) → IsConsistent p → (e : Ending p job run)
+    → SameView (changed_job (stopped p (max p.latest reading) run.slot e.run_is end) job (λ _. state_of (phase_after run end))) (view_of (record (ended_with p job end (Some run)) { latest = max p.latest reading }))
+same_after p reading job run end is e = record {
   moment = refl;
   next = refl;
-  jobs = set_twice old new;
-  acked = same_members (the_job ∷ []);
+  jobs = rephased p job (phase_after run end);
+  acked = same_acked job (phase_after run end) p.jobs;
   ordered = same_members [];
-  runs = same_members [];
+  runs = subst (λ l. SameMembers l (map run_of (without_run run.slot p.runs))) (sym (stopped_runs run.slot e.run_is p.runs is.runs_once e.run_there)) (same_members (map run_of (without_run run.slot p.runs)));
   marks = λ q. refl;
-  said = same_members said;
+  said = subst (λ x. SameMembers (x ∷ filter_map said_in p.jobs) (filter_map said_in (with_phase job (phase_after run end) p.jobs))) (the_said p job run (how_of end) e)
+      (said_more job (phase_after run end) e.job_is (record_said (run_no run) job (how_of end)) p.jobs e.job_there (λ q. ap (said_of q) e.running) (said_after run job end));
   slots = λ q. refl;
 }
 
--- the run has ended, and may not start again
-the_end : (r : Run) → IsIn r [] → r.run ≢ the_run
-the_end r there = absurd there
+end_takes : (p : PoolValue) (job : JobId) (end : End) (reading : ℕ) (run : RunName) → IsConsistent p → (e : Ending p job run)
+    → Takes (record (view_of p) { moment = max p.latest reading }) (Stop (run_of (run.slot, e.run_is)) (Some (how_of end)) ∷ end_step job run end ∷ []) (view_of (record (ended_with p job end (Some run)) { latest = max p.latest reading }))
+end_takes p job (Exited code) reading run is e = (
+  run_in_runs run.slot e.run_is p.runs e.run_there,
+  (
+    ((e.until, stands_in p job e.job_is (Under (run_no run) e.until) e.job_there (ap state_of e.running)), dead_after p (max p.latest reading) job run (Exited code) is e, inl (the_said p job run (how_of (Exited code)) e), tt),
+    same_after p reading job run (Exited code) is e,
+  ),
+)
+end_takes p job (Signalled signal) reading run is e = (
+  run_in_runs run.slot e.run_is p.runs e.run_there,
+  (
+    ((e.until, stands_in p job e.job_is (Under (run_no run) e.until) e.job_there (ap state_of e.running)), dead_after p (max p.latest reading) job run (Signalled signal) is e, inl (the_said p job run (how_of (Signalled signal)) e), tt),
+    same_after p reading job run (Signalled signal) is e,
+  ),
+)
+end_takes p job NotStarted reading run is e = (
+  run_in_runs run.slot e.run_is p.runs e.run_there,
+  ((inr refl, over), same_after p reading job run NotStarted is e),
+)
+  where
+    over : IsSomeAnd (option_map entry_of (job_at job p.jobs)) (λ x. IsOver (stopped p (max p.latest reading) run.slot e.run_is NotStarted) x.state)
+    over = subst (λ o. IsSomeAnd (option_map entry_of o) (λ x. IsOver (stopped p (max p.latest reading) run.slot e.run_is NotStarted) x.state)) (sym e.job_there)
+        (subst (λ ph. IsOver (stopped p (max p.latest reading) run.slot e.run_is NotStarted) (state_of ph)) (sym e.running) (inl (dead_after p (max p.latest reading) job run NotStarted is e)))
 
--- a run has ended, and its job is finished or held
-ended : (memory latest : ℕ) (program : List ℕ) (request : ℕ) (judged : MemoryMatch) (until : ℕ) (end : End) (reading : ℕ)
-    → Makes memory latest (job program request (phase.Running judged until)) (event.Ended end reading)
-ended memory latest program request judged until (Exited code) reading =
-    let running = entry request (phase.Running judged until) in
-    let finished = entry request (phase.Finished (Exited code)) in
-    timed (view memory latest (job program request (phase.Running judged until))) (view memory (max latest reading) (job program request (phase.Finished (Exited code)))) reading
-    (Stop (run_of judged until) (Some (how_of (Exited code))) ∷ Finish the_job (EndedBy the_run (how_of (Exited code))) ∷ [])
-    (inl refl, (((until, refl), (inr (inr (refl, omega arith)), the_end), inl refl, tt), rewritten memory (max latest reading) (Some running) (Some finished) (said_with (how_of (Exited code)))))
-ended memory latest program request judged until (Signalled signal) reading =
-    let running = entry request (phase.Running judged until) in
-    let finished = entry request (phase.Finished (Signalled signal)) in
-    timed (view memory latest (job program request (phase.Running judged until))) (view memory (max latest reading) (job program request (phase.Finished (Signalled signal)))) reading
-    (Stop (run_of judged until) (Some (how_of (Signalled signal))) ∷ Finish the_job (EndedBy the_run (how_of (Signalled signal))) ∷ [])
-    (inl refl, (((until, refl), (inr (inr (refl, omega arith)), the_end), inl refl, tt), rewritten memory (max latest reading) (Some running) (Some finished) (said_with (how_of (Signalled signal)))))
-ended memory latest program request judged until NotStarted reading =
-    let running = entry request (phase.Running judged until) in
-    timed (view memory latest (job program request (phase.Running judged until))) (view memory (max latest reading) (job program request phase.Held)) reading
-    (Stop (run_of judged until) (Some (how_of NotStarted)) ∷ Free the_job Held ∷ [])
-    (inl refl, ((inr refl, inl (inr (inr (refl, omega arith)), the_end)), rewritten memory (max latest reading) (Some running) (Some (entry request phase.Held)) (said_with (how_of NotStarted))))
-
-closing : (memory latest : ℕ) (at : Option Job) (reading : ℕ) → Makes memory latest at (event.Close reading)
-closing memory latest at reading =
-    timed (view memory latest at) (view memory (max latest reading) at) reading []
+-- ---- every event
+-- the steps of an accepted event, but for the time
+own_takes : (p : PoolValue) (ev : Event) → IsConsistent p → open_refusal p ev ≡ None → Takes (record (view_of p) { moment = max p.latest (reading_of ev) }) (own_steps p ev) (view_of (after p ev))
+own_takes p (event.Submit jobs reading) is ok =
+    submit_takes jobs (p.clusters + 1) 0 p.jobs (record (view_of p) { moment = max p.latest reading }) (view_of (after p (event.Submit jobs reading)))
+    (λ id there. inl (omega (arith, is.numbered id there)))
+    (λ q. refl)
+    (λ q. refl)
+    (same_members (map (λ e. e.0) p.jobs))
+    (same_members (map (λ e. e.0) (p.jobs ++ numbered_jobs (p.clusters + 1) 0 jobs)))
     (record {
       moment = refl;
       next = refl;
       jobs = λ q. refl;
-      acked = same_members (acked_in at);
+      acked = same_members (map (λ e. e.0) (p.jobs ++ numbered_jobs (p.clusters + 1) 0 jobs));
       ordered = same_members [];
-      runs = same_members (runs_in at);
+      runs = same_members (map run_of p.runs);
       marks = λ q. refl;
-      said = same_members (said_in at);
+      said = subst (SameMembers (filter_map said_in p.jobs)) (sym (said_by_new (p.clusters + 1) 0 jobs)) (same_members (filter_map said_in p.jobs));
       slots = λ q. refl;
     })
-
--- an accepted event of a pool that is open makes its steps
-moves_at : (memory latest : ℕ) (at : Option Job) (e : Event) → open_refusal (pool [] memory latest at false) e ≡ None
-    → Makes memory latest at e
-moves_at memory latest None (event.Submit program request reading) ok = submitted memory latest program request reading
-moves_at memory latest None (event.Start judged reading) ok = cc
-moves_at memory latest None (event.Ended end reading) ok = cc
-moves_at memory latest None (event.Close reading) ok = cc
-moves_at memory latest (Some j) (event.Submit program request reading) ok = cc
-moves_at memory latest (Some j) (event.Start judged reading) ok = by_phase j.program j.memory j.phase ok
   where
-    by_phase : (program : List ℕ) (request : ℕ) (ph : Phase) → open_refusal (pool [] memory latest (job program request ph) false) (event.Start judged reading) ≡ None
-        → Makes memory latest (job program request ph) (event.Start judged reading)
-    by_phase program request phase.Idle ok =
-        let both = judged_both request memory judged ok in
-        started memory latest program request judged reading both.0 both.1
-    by_phase program request (phase.Running old until) ok = cc
-    by_phase program request phase.Held ok = cc
-    by_phase program request (phase.Finished how) ok = cc
-moves_at memory latest (Some j) (event.Ended end reading) ok = by_phase j.program j.memory j.phase ok
-  where
-    by_phase : (program : List ℕ) (request : ℕ) (ph : Phase) → open_refusal (pool [] memory latest (job program request ph) false) (event.Ended end reading) ≡ None
-        → Makes memory latest (job program request ph) (event.Ended end reading)
-    by_phase program request phase.Idle ok = cc
-    by_phase program request (phase.Running judged until) ok = ended memory latest program request judged until end reading
-    by_phase program request phase.Held ok = cc
-    by_phase program request (phase.Finished how) ok = cc
-moves_at memory latest (Some j) (event.Close reading) ok = closing memory latest (Some j) reading
+    silent : (cluster proc : ℕ) (ads : List Attributes) → filter_map said_in (numbered_jobs cluster proc ads) ≡ []
+    silent cluster proc [] = refl
+    silent cluster proc (ad ∷ ads) = silent cluster (proc + 1) ads
 
--- a pool that accepts an event is open
-pub open_before : (p : Pool) (e : Event) → refusal p e ≡ None → p.closed ≡ false
-open_before p e ok = by_test p.closed ok
-  where
-    by_test : (b : Bool) → (if b then Some error.Closed else open_refusal p e) ≡ None → b ≡ false
-    by_test true ok = cc
-    by_test false ok = refl
+    said_by_new : (cluster proc : ℕ) (ads : List Attributes) → filter_map said_in (p.jobs ++ numbered_jobs cluster proc ads) ≡ filter_map said_in p.jobs
+    said_by_new cluster proc ads = filter_map-append said_in p.jobs (numbered_jobs cluster proc ads) ∙ ap (λ l. filter_map said_in p.jobs ++ l) (silent cluster proc ads) ∙ append-nil (filter_map said_in p.jobs)
+own_takes p (event.Start job slot judged reading) is ok = start_takes p job slot judged reading is (startable p job slot judged reading ok)
+own_takes p (event.Ended job end reading) is ok =
+    let found = some_run (run_of_job (job_at job p.jobs)) job ok in
+    let e = ending p job found.0 is found.1 in
+    subst (λ o. Takes (record (view_of p) { moment = max p.latest reading }) (end_steps p job end o) (view_of (record (ended_with p job end o) { latest = max p.latest reading }))) (sym found.1)
+    (subst (λ o. Takes (record (view_of p) { moment = max p.latest reading }) (stop_steps found.0.slot end o ++ end_step job found.0 end ∷ []) (view_of (record (ended_with p job end (Some found.0)) { latest = max p.latest reading }))) (sym e.run_there)
+    (end_takes p job end reading found.0 is e))
+own_takes p (event.Close reading none) is ok = record {
+  moment = refl;
+  next = refl;
+  jobs = λ q. refl;
+  acked = same_members (map (λ e. e.0) p.jobs);
+  ordered = same_members [];
+  runs = same_members (map run_of p.runs);
+  marks = λ q. refl;
+  said = same_members (filter_map said_in p.jobs);
+  slots = λ q. refl;
+}
 
--- and refuses it for no other cause
-pub opened : (p : Pool) (e : Event) → refusal p e ≡ None → open_refusal p e ≡ None
-opened p e ok = by_test p.closed ok
-  where
-    by_test : (b : Bool) → (if b then Some error.Closed else open_refusal p e) ≡ None → open_refusal p e ≡ None
-    by_test true ok = cc
-    by_test false ok = ok
-
-pub moves : (p : Pool) (e : Event) → refusal p e ≡ None → Takes (view_of p) (steps_of p e) (view_of (after p e))
-moves p e ok = moves_at p.memory p.latest p.job e (opened p e ok)
+pub moves : (p : PoolValue) (ev : Event) → IsConsistent p → refusal p ev ≡ None → Takes (view_of p) (steps_of p ev) (view_of (after p ev))
+moves p ev is ok = timed (view_of p) (view_of (after p ev)) (reading_of ev) (own_steps p ev) (own_takes p ev is (opened p ev ok))
 
 -- an opening pool has no job and no run
-opening_safe : (name : List ℕ) (memory : ℕ) → Safe (view_of (opening_pool name memory))
-opening_safe name memory = record {
+opening_safe : (slots : List SlotAd) → Safe (view_of (opening_pool slots))
+opening_safe slots = record {
   matched = λ r there. absurd there;
   one_run_per_slot = λ r s there. absurd there;
   one_lease_per_job = λ r s there. absurd there;
@@ -277,12 +416,12 @@ opening_safe name memory = record {
   endings_said = λ q. tt;
 }
 
-each_moves : (p : Pool) (ss : List Step) (q : Pool) → Safe (view_of p) → RunsLeased (view_of p) → LeadsTo p ss q → EachMoves p ss
-each_moves p [] q safe leased leads = safe
-each_moves p (s ∷ ss) q safe leased leads =
-    let takes = moves p s.event leads.0.accepted in
+each_moves : (p : PoolValue) (ss : List Step) (q : PoolValue) → IsConsistent p → Safe (view_of p) → RunsLeased (view_of p) → LeadsTo p ss q → EachMoves p ss
+each_moves p [] q is safe leased leads = safe
+each_moves p (s ∷ ss) q is safe leased leads =
+    let takes = moves p s.event is leads.0.accepted in
     let next = takes_safe (view_of p) (steps_of p s.event) (view_of (after p s.event)) takes safe leased in
-    (safe, takes, each_moves (after p s.event) ss q next.0 next.1 leads.1)
+    (safe, takes, each_moves (after p s.event) ss q (after_consistent p s.event is leads.0.accepted) next.0 next.1 leads.1)
 
-pub history_moves : (name : List ℕ) (memory : ℕ) (list : List Step) (p : Pool) → LeadsTo (opening_pool name memory) list p → EachMoves (opening_pool name memory) list
-history_moves name memory list p leads = each_moves (opening_pool name memory) list p (opening_safe name memory) (λ r there. absurd there) leads
+pub history_moves : (slots : List SlotAd) (list : List Step) (p : PoolValue) → LeadsTo (opening_pool slots) list p → EachMoves (opening_pool slots) list
+history_moves slots list p leads = each_moves (opening_pool slots) list p (opening_consistent slots) (opening_safe slots) (λ r there. absurd there) leads

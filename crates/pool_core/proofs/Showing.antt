@@ -1,126 +1,159 @@
 -- A pool shows what its history says.
-use Rattle.std.proofs.Common.{◌≡◌, ℕ, List, [], ◌∷◌, ◌++◌, Option, Some, None, false, max, refl, sym, ◌∙◌, ap, append_assoc}
-use Rattle.std.specs.Prelude.{fold, option_to_list}
-use Rattle.std.proofs.lemmas.List.{append-nil}
-use Rattle.std.specs.List.{filter_map, cons_option}
+use Rattle.std.proofs.Common.{◌≡◌, ℕ, ◌+◌, List, [], ◌∷◌, ◌++◌, length, map, Option, Some, None, false, max, refl, sym, ◌∙◌, ap, subst, arith, append_assoc, length-append}
+use Rattle.std.specs.Prelude.{fold}
+use Rattle.std.proofs.lemmas.List.{append-nil, map-append}
+use Rattle.std.specs.List.{flat_map, cons_option}
+use Rattle.ad_tree.specs.Ad.{Attributes}
+use Rattle.pool_outer.specs.declared.spawner.Launch.{Launch}
 use Rattle.pool_core.specs.declared.event.End.{End}
-use Rattle.pool_core.specs.declared.event.End.TheVariants.{Exited, Signalled, NotStarted}
 use Rattle.pool_core.specs.declared.event.Event.{Event}
 use Rattle.pool_core.specs.declared.event.Event.TheVariants.{Submit, Start, Ended, Close}
 use Rattle.pool_core.specs.declared.history.Step.{Step}
-use Rattle.pool_core.specs.declared.pool.Job.{Job}
-use Rattle.pool_core.specs.declared.pool.Phase.{Phase}
-use Rattle.pool_core.specs.declared.pool.Phase.TheVariants.{Idle, Running, Held, Finished}
-use Rattle.pool_core.specs.declared.pool.Pool.{Pool}
+use Rattle.pool_core.specs.declared.job.Job.{Job}
+use Rattle.pool_core.specs.declared.job.RunName.{RunName}
+use Rattle.pool_core.specs.declared.numbers.JobId.{JobId}
+use Rattle.pool_core.specs.declared.slot.SlotAd.{SlotAd}
 use Rattle.pool_core.specs.Answers.{kept_of}
-use Rattle.pool_core.specs.Histories.{LeadsTo, Shows, submit_in, launch_in, end_in, readings, submits, launches, ends, submits_of, launches_of, ends_of, is_close, ends_in_close}
-use Rattle.pool_core.specs.Reactions.{opening_pool, refusal, open_refusal, answer_to, after, job_after}
-use Rattle.pool_core.proofs.Moving.{opened, open_before}
+use Rattle.pool_core.specs.Histories.{LeadsTo, Shows, submit_in, launch_in, end_in, readings, submits, launches, ends, is_close, ends_in_close}
+use Rattle.pool_core.specs.PoolValue.{PoolValue, job_at, IsConsistent}
+use Rattle.pool_core.specs.Reactions.{opening_pool, refusal, open_refusal, run_of_job, answer_to, numbered_jobs, phase_after, ended_with, after}
+use Rattle.pool_core.proofs.Consistent.{opened, open_before, runs_there, own_run_of, some_run, after_consistent, opening_consistent}
+use Rattle.pool_core.proofs.Tables.{map-with_phase, length-without}
 
-abbrev pool : ℕ → Option Job → Pool
-pool memory at = record { name = []; memory = memory; latest = 0; job = at; closed = false }
+abbrev ads_of : List (JobId × Job) → List Attributes
+ads_of jobs = map (λ e. e.1.ad) jobs
 
--- an accepted event adds what it says to what the job shows
-record Adds (memory : ℕ) (at : Option Job) (e : Event) : Type 0 where
-  submitted : submits_of (job_after at e) ≡ submits_of at ++ option_to_list (submit_in e)
-  launched : launches_of (job_after at e) ≡ launches_of at ++ option_to_list (launch_in (kept_of (answer_to (pool memory at) e)))
-  ended : ends_of (job_after at e) ≡ ends_of at ++ option_to_list (end_in e)
+-- what one more event submits, launches and ends
+abbrev one_submit : Event → List (List Attributes × ℕ)
+one_submit e = cons_option (submit_in e) []
 
-abbrev job : List ℕ → ℕ → Phase → Option Job
-job program request ph = Some (record { program = program; memory = request; phase = ph })
+abbrev one_launch : PoolValue → Event → List Launch
+one_launch p e = cons_option (launch_in (kept_of (answer_to p e))) []
 
-adds : (memory : ℕ) (at : Option Job) (e : Event) → open_refusal (pool memory at) e ≡ None → Adds memory at e
-adds memory None (Submit program request reading) ok = record { submitted = refl; launched = refl; ended = refl }
-adds memory None (Start judged reading) ok = cc
-adds memory None (Ended end reading) ok = cc
-adds memory None (Close reading) ok = cc
-adds memory (Some j) (Submit program request reading) ok = cc
-adds memory (Some j) (Start judged reading) ok = by_phase j.program j.memory j.phase ok
-  where
-    by_phase : (program : List ℕ) (request : ℕ) (ph : Phase) → open_refusal (pool memory (job program request ph)) (Start judged reading) ≡ None → Adds memory (job program request ph) (Start judged reading)
-    by_phase program request Idle ok = record { submitted = refl; launched = refl; ended = refl }
-    by_phase program request (Running old until) ok = cc
-    by_phase program request Held ok = cc
-    by_phase program request (Finished how) ok = cc
-adds memory (Some j) (Ended end reading) ok = by_phase j.program j.memory j.phase end ok
-  where
-    by_phase : (program : List ℕ) (request : ℕ) (ph : Phase) (end : End) → open_refusal (pool memory (job program request ph)) (Ended end reading) ≡ None → Adds memory (job program request ph) (Ended end reading)
-    by_phase program request Idle end ok = cc
-    by_phase program request (Running old until) (Exited code) ok = record { submitted = refl; launched = refl; ended = refl }
-    by_phase program request (Running old until) (Signalled signal) ok = record { submitted = refl; launched = refl; ended = refl }
-    by_phase program request (Running old until) NotStarted ok = record { submitted = refl; launched = refl; ended = refl }
-    by_phase program request Held end ok = cc
-    by_phase program request (Finished how) end ok = cc
-adds memory (Some j) (Close reading) ok = by_phase j.program j.memory j.phase
-  where
-    by_phase : (program : List ℕ) (request : ℕ) (ph : Phase) → Adds memory (job program request ph) (Close reading)
-    by_phase program request Idle = record { submitted = refl; launched = refl; ended = refl }
-    by_phase program request (Running old until) = record { submitted = refl; launched = refl; ended = refl }
-    by_phase program request Held = record { submitted = refl; launched = refl; ended = refl }
-    by_phase program request (Finished how) = record { submitted = refl; launched = refl; ended = refl }
+abbrev one_end : Event → List End
+one_end e = cons_option (end_in e) []
+
+-- an accepted event adds what it says to what the pool shows
+record Adds (p : PoolValue) (e : Event) (q : PoolValue) : Type 0 where
+  submitted : ads_of q.jobs ≡ ads_of p.jobs ++ flat_map (λ s. s.0) (one_submit e)
+  launched : q.started ≡ p.started + length (one_launch p e)
+  ended : length q.runs + length (one_end e) + p.started ≡ length p.runs + q.started
+
+ads_numbered : (cluster proc : ℕ) (ads : List Attributes) → ads_of (numbered_jobs cluster proc ads) ≡ ads
+ads_numbered cluster proc [] = refl
+ads_numbered cluster proc (ad ∷ ads) = ap (λ l. ad ∷ l) (ads_numbered cluster (proc + 1) ads)
+
+ended_adds : (p : PoolValue) (job : JobId) (end : End) (reading : ℕ) (run : RunName) → IsConsistent p → run_of_job (job_at job p.jobs) ≡ Some run → Adds p (Ended job end reading) (ended_with p job end (Some run))
+ended_adds p job end reading run is has =
+    let own = own_run_of p job run is (runs_there (job_at job p.jobs) run has) in
+    record {
+      submitted = map-with_phase (λ e. e.1.ad) job (phase_after run end) p.jobs (λ e. refl) ∙ sym (append-nil (ads_of p.jobs));
+      launched = omega arith;
+      ended = omega (arith, length-without run.slot own.run_there p.runs own.at_slot);
+    }
+
+adds : (p : PoolValue) (e : Event) → IsConsistent p → open_refusal p e ≡ None → Adds p e (after p e)
+adds p (Submit jobs reading) is ok = record {
+  submitted = map-append (λ e. e.1.ad) p.jobs (numbered_jobs (p.clusters + 1) 0 jobs) ∙ ap (λ l. ads_of p.jobs ++ l) (ads_numbered (p.clusters + 1) 0 jobs ∙ sym (append-nil jobs));
+  launched = omega arith;
+  ended = omega arith;
+}
+adds p (Start job slot judged reading) is ok = record {
+  submitted = map-with_phase (λ e. e.1.ad) job _ p.jobs (λ e. refl) ∙ sym (append-nil (ads_of p.jobs));
+  launched = omega arith;
+  ended = omega (arith, length-append p.runs ((slot, record { job = job; number = p.started + 1; judged = judged; until = reading }) ∷ []));
+}
+adds p (Ended job end reading) is ok =
+    let found = some_run (run_of_job (job_at job p.jobs)) job ok in
+    let a = ended_adds p job end reading found.0 is found.1 in
+    let b = subst (λ o. Adds p (Ended job end reading) (ended_with p job end o)) (sym found.1) a in
+    record { submitted = b.submitted; launched = b.launched; ended = b.ended }
+adds p (Close reading none) is ok = record {
+  submitted = sym (append-nil (ads_of p.jobs));
+  launched = omega arith;
+  ended = omega arith;
+}
 
 -- what q shows is what p shows and then what the history between them says
-record Goes (p : Pool) (list : List Step) (q : Pool) : Type 0 where
-  machine : q.name ≡ p.name
-  slot : q.memory ≡ p.memory
+record Goes (p : PoolValue) (list : List Step) (q : PoolValue) : Type 0 where
+  slots : q.slots ≡ p.slots
   latest : q.latest ≡ fold max p.latest (readings list)
-  submitted : submits_of q.job ≡ submits_of p.job ++ submits list
-  launched : launches_of q.job ≡ launches_of p.job ++ launches list
-  ended : ends_of q.job ≡ ends_of p.job ++ ends list
+  submitted : ads_of q.jobs ≡ ads_of p.jobs ++ flat_map (λ s. s.0) (submits list)
+  launched : q.started ≡ p.started + length (launches list)
+  ended : length q.runs + length (ends list) + p.started ≡ length p.runs + q.started
 
--- one item more before the others
-first : {A : Type 0} {B : Type 0} (f : A → Option B) (x : A) (xs : List A) (all shown after : List B) → all ≡ after ++ filter_map f xs → after ≡ shown ++ option_to_list (f x) → all ≡ shown ++ filter_map f (x ∷ xs)
-first {B = B} f x xs all shown after rest here = rest ∙ (ap (λ l. l ++ filter_map f xs) here ∙ by_option (f x))
+flat_cons : (o : Option (List Attributes × ℕ)) (l : List (List Attributes × ℕ)) → flat_map (λ s. s.0) (cons_option o l) ≡ flat_map (λ s. s.0) (cons_option o []) ++ flat_map (λ s. s.0) l
+flat_cons None l = refl
+flat_cons (Some s) l = ap (λ x. x ++ flat_map (λ s. s.0) l) (sym (append-nil s.0))
+
+length_cons : {A : Type 0} (o : Option A) (l : List A) → length (cons_option o l) ≡ length (cons_option o []) + length l
+length_cons None l = omega arith
+length_cons (Some x) l = omega arith
+
+-- no event changes the slots
+slots_kept : (p : PoolValue) (e : Event) → (after p e).slots ≡ p.slots
+slots_kept p (Submit jobs reading) = refl
+slots_kept p (Start job slot judged reading) = refl
+slots_kept p (Ended job end reading) = by (run_of_job (job_at job p.jobs))
   where
-    by_option : (o : Option B) → (shown ++ option_to_list o) ++ filter_map f xs ≡ shown ++ cons_option o (filter_map f xs)
-    by_option None = ap (λ l. l ++ filter_map f xs) (append-nil shown)
-    by_option (Some y) = append_assoc shown (y ∷ []) (filter_map f xs)
+    by : (o : Option RunName) → (ended_with p job end o).slots ≡ p.slots
+    by None = refl
+    by (Some run) = refl
+slots_kept p (Close reading none) = refl
 
-goes : (p : Pool) (list : List Step) (q : Pool) → LeadsTo p list q → Goes p list q
-goes p [] q leads = record {
-  machine = ap (λ w. w.name) leads;
-  slot = ap (λ w. w.memory) leads;
+goes : (p : PoolValue) (list : List Step) (q : PoolValue) → IsConsistent p → LeadsTo p list q → Goes p list q
+goes p [] q is leads = record {
+  slots = ap (λ w. w.slots) leads;
   latest = ap (λ w. w.latest) leads;
-  submitted = ap (λ w. submits_of w.job) leads ∙ sym (append-nil (submits_of p.job));
-  launched = ap (λ w. launches_of w.job) leads ∙ sym (append-nil (launches_of p.job));
-  ended = ap (λ w. ends_of w.job) leads ∙ sym (append-nil (ends_of p.job));
+  submitted = ap (λ w. ads_of w.jobs) leads ∙ sym (append-nil (ads_of p.jobs));
+  launched = omega (arith, ap (λ w. w.started) leads);
+  ended = omega (arith, ap (λ w. w.started) leads, ap (λ w. length w.runs) leads);
 }
-goes p (s ∷ ss) q leads =
-    let rest = goes (after p s.event) ss q leads.1 in
-    let step = adds p.memory p.job s.event (opened p s.event leads.0.accepted) in
+goes p (s ∷ ss) q is leads =
+    let e = s.event in
+    let rest = goes (after p e) ss q (after_consistent p e is leads.0.accepted) leads.1 in
+    let step = adds p e is (opened p e leads.0.accepted) in
+    let kept : launch_in s.kept ≡ launch_in (kept_of (answer_to p e)) = ap launch_in leads.0.answer in
+    let launched : length (launches (s ∷ ss)) ≡ length (one_launch p e) + length (launches ss) = ap (λ o. length (cons_option o (launches ss))) kept ∙ length_cons (launch_in (kept_of (answer_to p e))) (launches ss) in
+    let ended : length (ends (s ∷ ss)) ≡ length (one_end e) + length (ends ss) = length_cons (end_in e) (ends ss) in
     record {
-      machine = rest.machine;
-      slot = rest.slot;
+      slots = rest.slots ∙ slots_kept p e;
       latest = rest.latest;
-      submitted = first (λ x. submit_in x.event) s ss (submits_of q.job) (submits_of p.job) (submits_of (job_after p.job s.event)) rest.submitted step.submitted;
-      launched = first (λ x. launch_in x.kept) s ss (launches_of q.job) (launches_of p.job) (launches_of (job_after p.job s.event)) rest.launched (step.launched ∙ ap (λ k. launches_of p.job ++ option_to_list (launch_in k)) (sym leads.0.answer));
-      ended = first (λ x. end_in x.event) s ss (ends_of q.job) (ends_of p.job) (ends_of (job_after p.job s.event)) rest.ended step.ended;
+      submitted =
+          rest.submitted ∙ ap (λ l. l ++ flat_map (λ x. x.0) (submits ss)) step.submitted
+          ∙ append_assoc (ads_of p.jobs) (flat_map (λ x. x.0) (one_submit e)) (flat_map (λ x. x.0) (submits ss))
+          ∙ ap (λ l. ads_of p.jobs ++ l) (sym (flat_cons (submit_in e) (submits ss)));
+      launched = omega (arith, rest.launched, step.launched, launched);
+      ended = omega (arith, rest.ended, step.ended, ended);
     }
 
 -- an open pool is closed by a close alone
-closed_on : (p : Pool) (e : Event) → refusal p e ≡ None → (after p e).closed ≡ is_close e
+closed_on : (p : PoolValue) (e : Event) → refusal p e ≡ None → (after p e).closed ≡ is_close e
 closed_on p e ok = by_event e (open_before p e ok)
   where
-    by_event : (e : Event) → p.closed ≡ false → (after p e).closed ≡ is_close e
-    by_event (Submit program memory reading) open_yet = open_yet
-    by_event (Start judged reading) open_yet = open_yet
-    by_event (Ended end reading) open_yet = open_yet
-    by_event (Close reading) open_yet = refl
+    by : (job : JobId) (end : End) (o : Option RunName) → (ended_with p job end o).closed ≡ p.closed
+    by job end None = refl
+    by job end (Some run) = refl
 
-closes : (p : Pool) (list : List Step) (q : Pool) → p.closed ≡ false → LeadsTo p list q → q.closed ≡ ends_in_close list
+    by_event : (e : Event) → p.closed ≡ false → (after p e).closed ≡ is_close e
+    by_event (Submit jobs reading) open_yet = open_yet
+    by_event (Start job slot judged reading) open_yet = open_yet
+    by_event (Ended job end reading) open_yet = by job end (run_of_job (job_at job p.jobs)) ∙ open_yet
+    by_event (Close reading none) open_yet = refl
+
+closes : (p : PoolValue) (list : List Step) (q : PoolValue) → p.closed ≡ false → LeadsTo p list q → q.closed ≡ ends_in_close list
 closes p [] q open_yet leads = ap (λ w. w.closed) leads ∙ open_yet
 closes p (s ∷ []) q open_yet leads = ap (λ w. w.closed) leads.1 ∙ closed_on p s.event leads.0.accepted
 closes p (s ∷ t ∷ ss) q open_yet leads = closes (after p s.event) (t ∷ ss) q (open_before (after p s.event) t.event leads.1.0.accepted) leads.1
 
-pub shows : (name : List ℕ) (memory : ℕ) (list : List Step) (p : Pool) → LeadsTo (opening_pool name memory) list p → Shows name memory list p
-shows name memory list p leads =
-    let all = goes (opening_pool name memory) list p leads in
+pub shows : (slots : List SlotAd) (list : List Step) (p : PoolValue) → LeadsTo (opening_pool slots) list p → Shows slots list p
+shows slots list p leads =
+    let all = goes (opening_pool slots) list p (opening_consistent slots) leads in
     record {
-      machine = all.machine;
-      slot = all.slot;
+      slots_are = all.slots;
       latest = all.latest;
-      submitted = sym all.submitted;
-      launched = sym all.launched;
-      ended = sym all.ended;
-      closed = closes (opening_pool name memory) list p refl leads;
+      submitted = all.submitted;
+      launched = omega (arith, all.launched);
+      ended = omega (arith, all.ended);
+      closed = closes (opening_pool slots) list p refl leads;
     }

@@ -14,7 +14,7 @@ both_true true true h = (refl, refl)
 both_true true false h = cc
 both_true false b h = cc
 
-same_job-true : (a b : JobId) → same_job a b ≡ true → a ≡ b
+pub same_job-true : (a b : JobId) → same_job a b ≡ true → a ≡ b
 same_job-true a b h =
     let both = both_true (a.cluster == b.cluster) (a.proc == b.proc) h in
     let cluster : a.cluster ≡ b.cluster = eqb-true a.cluster b.cluster both.0 in
@@ -23,7 +23,7 @@ same_job-true a b h =
     let with_proc : ℕ → JobId = λ n. record { cluster = b.cluster; proc = n } in
     ap with_cluster cluster ∙ ap with_proc proc
 
-in_filter : {A : Type 0} (p : A → Bool) (x : A) (xs : List A) → IsIn x (filter p xs) → IsIn x xs
+pub in_filter : {A : Type 0} (p : A → Bool) (x : A) (xs : List A) → IsIn x (filter p xs) → IsIn x xs
 in_filter p x [] there = there
 in_filter p x (y ∷ ys) there = by_test (p y) (in_filter p x ys) there
   where
@@ -43,7 +43,7 @@ at_state : (o : Option Entry) (P : State → Type 0) (s : State) → IsSomeAnd o
 at_state None P s stands fact = absurd stands
 at_state (Some e) P s stands fact = subst P stands fact
 
-same_job-same : (a : JobId) → same_job a a ≡ true
+pub same_job-same : (a : JobId) → same_job a a ≡ true
 same_job-same a = rw (eq-eqb a.cluster a.cluster refl, eq-eqb a.proc a.proc refl)
 
 other_job : (q job : JobId) → same_job q job ≡ false → q ≢ job
@@ -72,7 +72,7 @@ state_changed : (f : State → State) (s : State) (o : Option Entry) → IsSomeA
 state_changed f s None stands = stands
 state_changed f s (Some e) stands = ap f stands
 
-changed_core : (v : AbstractPool) (job : JobId) (f : State → State) (q : JobId) (core : Core) → HasCore v q core → HasCore (changed_job v job f) q core
+pub changed_core : (v : AbstractPool) (job : JobId) (f : State → State) (q : JobId) (core : Core) → HasCore v q core → HasCore (changed_job v job f) q core
 changed_core v job f q core has = by_place (entry_at v job f q)
   where
     by_place : EntryAt v job f q → HasCore (changed_job v job f) q core

@@ -4,7 +4,7 @@ use Rattle.pool_core.specs.declared.event.Event.{Event}
 use Rattle.pool_core.specs.declared.event.Event.TheVariants.{Submit, Start, Ended, Close}
 
 abbrev pub reading_of : Event → ℕ
-reading_of (Submit program memory reading) = reading
-reading_of (Start judged reading) = reading
-reading_of (Ended end reading) = reading
-reading_of (Close reading) = reading
+reading_of (Submit jobs reading) = reading
+reading_of (Start job slot judged reading) = reading
+reading_of (Ended job end reading) = reading
+reading_of (Close reading none) = reading

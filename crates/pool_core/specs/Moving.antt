@@ -1,40 +1,65 @@
 -- The abstract steps of each event, and what is promised of every history.
-use Rattle.std.specs.Prelude.{ℕ, List, [], ◌∷◌, ◌++◌, nat_lt, map, Some, if◌then◌else◌}
+use Rattle.std.specs.Prelude.{ℕ, ◌+◌, List, [], ◌∷◌, ◌++◌, nat_lt, Option, Some, None, if◌then◌else◌}
 use Rattle.pool_core.specs.declared.event.End.{End}
 use Rattle.pool_core.specs.declared.event.End.TheVariants.{Exited, Signalled, NotStarted}
 use Rattle.pool_core.specs.declared.event.Event.{Event}
 use Rattle.pool_core.specs.declared.event.Event.TheVariants as event
 use Rattle.pool_core.specs.declared.history.Step.{Step}
-use Rattle.pool_core.specs.declared.pool.Pool.{Pool}
+use Rattle.pool_core.specs.declared.job.Job.{Job}
+use Rattle.pool_core.specs.declared.job.Run.{Run as SlotRun}
+use Rattle.pool_core.specs.declared.job.RunName.{RunName}
+use Rattle.pool_core.specs.declared.numbers.JobId.{JobId}
+use Rattle.pool_core.specs.declared.numbers.SlotId.{SlotId}
+use Rattle.ad_eval.specs.Judgement.{Judgement}
+use Rattle.pool_core.specs.Ads.{core_of}
 use Rattle.pool_core.specs.AbstractPool.{Held, EndedBy}
 use Rattle.pool_core.specs.AbstractStep.{AbstractStep, Time, Queue, Acknowledge, Grant, Start, Stop, Free, Finish, Takes}
 use Rattle.pool_core.specs.Events.{reading_of}
-use Rattle.pool_core.specs.Reactions.{after}
+use Rattle.pool_core.specs.PoolValue.{PoolValue, job_at, run_at}
+use Rattle.pool_core.specs.Reactions.{numbered_jobs, run_named, run_of_job, after}
 use Rattle.pool_core.specs.Safe.{Safe}
-use Rattle.pool_core.specs.View.{the_job, the_run, how_of, run_of, runs_in, marks_after, view_of}
+use Rattle.pool_core.specs.View.{run_no, how_of, run_of, marks_after, view_of}
 
 -- the moment passes, where the reading is later
 abbrev pub time_to : ℕ → ℕ → List AbstractStep
 time_to moment reading = if nat_lt moment reading then Time reading ∷ [] else []
 
+abbrev pub submit_steps : List (JobId × Job) → List AbstractStep
+submit_steps [] = []
+submit_steps (e ∷ es) = Queue e.0 (core_of e.1.ad) ∷ Acknowledge e.0 ∷ submit_steps es
+
+abbrev pub start_steps : PoolValue → JobId → SlotId → Judgement → ℕ → List AbstractStep
+start_steps p job slot judged reading =
+    Grant job (run_no (run_named slot (p.started + 1))) reading
+    ∷ Start (run_of (slot, record { job = job; number = p.started + 1; judged = judged; until = reading })) (marks_after p.slots (p.started + 1))
+    ∷ []
+
 -- what becomes of the job whose run has ended
-abbrev pub end_step : End → AbstractStep
-end_step (Exited code) = Finish the_job (EndedBy the_run (how_of (Exited code)))
-end_step (Signalled signal) = Finish the_job (EndedBy the_run (how_of (Signalled signal)))
-end_step NotStarted = Free the_job Held
+abbrev pub end_step : JobId → RunName → End → AbstractStep
+end_step job run (Exited code) = Finish job (EndedBy (run_no run) (how_of (Exited code)))
+end_step job run (Signalled signal) = Finish job (EndedBy (run_no run) (how_of (Signalled signal)))
+end_step job run NotStarted = Free job Held
+
+abbrev pub stop_steps : SlotId → End → Option SlotRun → List AbstractStep
+stop_steps slot end None = []
+stop_steps slot end (Some r) = Stop (run_of (slot, r)) (Some (how_of end)) ∷ []
+
+abbrev pub end_steps : PoolValue → JobId → End → Option RunName → List AbstractStep
+end_steps p job end None = []
+end_steps p job end (Some run) = stop_steps run.slot end (run_at run.slot p.runs) ++ end_step job run end ∷ []
 
 -- the steps of an event, but for the time
-abbrev pub own_steps : Pool → Event → List AbstractStep
-own_steps p (event.Submit program memory reading) = Queue the_job memory ∷ Acknowledge the_job ∷ []
-own_steps p (event.Start judged reading) = Grant the_job the_run reading ∷ Start (run_of judged reading) (marks_after 1) ∷ []
-own_steps p (event.Ended end reading) = map (λ r. Stop r (Some (how_of end))) (runs_in p.job) ++ end_step end ∷ []
-own_steps p (event.Close reading) = []
+abbrev pub own_steps : PoolValue → Event → List AbstractStep
+own_steps p (event.Submit jobs reading) = submit_steps (numbered_jobs (p.clusters + 1) 0 jobs)
+own_steps p (event.Start job slot judged reading) = start_steps p job slot judged reading
+own_steps p (event.Ended job end reading) = end_steps p job end (run_of_job (job_at job p.jobs))
+own_steps p (event.Close reading none) = []
 
 -- the steps that an accepted event makes
-abbrev pub steps_of : Pool → Event → List AbstractStep
+abbrev pub steps_of : PoolValue → Event → List AbstractStep
 steps_of p ev = time_to p.latest (reading_of ev) ++ own_steps p ev
 
 -- Every pool of a history is safe, and each event moves the one before it to the next by its steps.
-abbrev pub EachMoves : Pool → List Step → Type 0
+abbrev pub EachMoves : PoolValue → List Step → Type 0
 EachMoves p [] = Safe (view_of p)
 EachMoves p (s ∷ ss) = Safe (view_of p) × Takes (view_of p) (steps_of p s.event) (view_of (after p s.event)) × EachMoves (after p s.event) ss

@@ -1,14 +1,7 @@
--- The numbers of jobs, slots, claims and runs. A job's number is its ClusterId and ProcId (HTCondor manual, Job ClassAd
--- Attributes), and a slot's its machine and SlotID (Machine ClassAd Attributes).
+-- The numbers of claims and runs.
 use Rattle.std.specs.Prelude.{ℕ, Bool, ◌&&◌, ◌==◌}
-
-pub record JobId : Type 0 where
-  pub cluster : ℕ
-  pub proc : ℕ
-
-pub record SlotId : Type 0 where
-  pub machine : ℕ
-  pub slot : ℕ
+pub use Rattle.pool_core.specs.declared.numbers.JobId.{JobId}
+pub use Rattle.pool_core.specs.declared.numbers.SlotId.{SlotId}
 
 -- a claim of a slot: in which boot of its machine it was offered, and its place among the offers of that boot
 pub record ClaimNo : Type 0 where

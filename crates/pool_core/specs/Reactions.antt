@@ -1,5 +1,10 @@
 -- Which events a pool accepts, what it answers, and what they change.
-use Rattle.std.specs.Prelude.{ℕ, List, [], Bool, true, false, ◌&&◌, ◌==◌, nat_lt, max, if◌then◌else◌, Option, Some, None, is_some, option_map}
+use Rattle.std.specs.Prelude.{ℕ, ◌+◌, List, [], ◌∷◌, ◌++◌, length, map, Bool, true, false, not, ◌&&◌, ◌||◌, ◌==◌, nat_lt, max, codes, if◌then◌else◌, Option, Some, None, is_some}
+use Rattle.std.specs.List.{filter_map}
+use Rattle.ad_value.specs.Content.{text}
+use Rattle.ad_tree.specs.Ad.{Attributes, lookup}
+use Rattle.ad_tree.specs.Tree.{Tree, literal}
+use Rattle.ad_eval.specs.Judgement.{Judgement, Mismatch}
 use Rattle.pool_outer.specs.declared.spawner.Launch.{Launch}
 use Rattle.pool_core.specs.declared.answer.Answer.{Answer}
 use Rattle.pool_core.specs.declared.answer.Answer.TheVariants as answer
@@ -9,97 +14,171 @@ use Rattle.pool_core.specs.declared.event.End.{End}
 use Rattle.pool_core.specs.declared.event.End.TheVariants.{Exited, Signalled, NotStarted}
 use Rattle.pool_core.specs.declared.event.Event.{Event}
 use Rattle.pool_core.specs.declared.event.Event.TheVariants.{Submit, Start, Ended, Close}
-use Rattle.pool_core.specs.declared.memory_match.MemoryMatch.{MemoryMatch}
-use Rattle.pool_core.specs.declared.pool.Job.{Job}
-use Rattle.pool_core.specs.declared.pool.Phase.{Phase}
-use Rattle.pool_core.specs.declared.pool.Phase.TheVariants.{Idle, Running, Held, Finished}
-use Rattle.pool_core.specs.declared.pool.Pool.{Pool}
+use Rattle.pool_core.specs.declared.job.Job.{Job}
+use Rattle.pool_core.specs.declared.job.Phase.{Phase}
+use Rattle.pool_core.specs.declared.job.Phase.TheVariants.{Idle, Running, Held, Finished}
+use Rattle.pool_core.specs.declared.job.Run.{Run}
+use Rattle.pool_core.specs.declared.job.RunName.{RunName}
+use Rattle.pool_core.specs.declared.numbers.JobId.{JobId}
+use Rattle.pool_core.specs.declared.numbers.SlotId.{SlotId}
+use Rattle.pool_core.specs.declared.slot.SlotAd.{SlotAd}
 use Rattle.pool_core.specs.Events.{reading_of}
+use Rattle.pool_core.specs.Numbers.{same_job, same_slot}
+use Rattle.pool_core.specs.PoolValue.{PoolValue, is_idle, job_at, run_at, slot_at}
+use Rattle.pool_core.specs.Sameness.{same_ad, same_ads}
 
-abbrev pub opening_pool : List ℕ → ℕ → Pool
-opening_pool name memory = record { name = name; memory = memory; latest = 0; job = None; closed = false }
+abbrev pub opening_pool : List SlotAd → PoolValue
+opening_pool slots = record { slots = slots; jobs = []; runs = []; clusters = 0; started = 0; latest = 0; closed = false }
 
-abbrev pub is_idle : Phase → Bool
-is_idle Idle = true
-is_idle (Running judged until) = false
-is_idle Held = false
-is_idle (Finished end) = false
+-- ---- which events are accepted
 
-abbrev pub is_running : Phase → Bool
-is_running Idle = false
-is_running (Running judged until) = true
-is_running Held = false
-is_running (Finished end) = false
+abbrev pub is_idle_job : Option Job → Bool
+is_idle_job None = false
+is_idle_job (Some j) = is_idle j.phase
 
-abbrev pub has_idle : Option Job → Bool
-has_idle None = false
-has_idle (Some j) = is_idle j.phase
+-- the run that a job has
+abbrev pub run_in : Phase → Option RunName
+run_in Idle = None
+run_in (Running run until) = Some run
+run_in (Held run) = None
+run_in (Finished run end) = None
 
-abbrev pub has_run : Option Job → Bool
-has_run None = false
-has_run (Some j) = is_running j.phase
+abbrev pub run_of_job : Option Job → Option RunName
+run_of_job None = None
+run_of_job (Some j) = run_in j.phase
 
--- the match is one of the job's request and the slot's memory
-abbrev pub is_judged : Option Job → ℕ → MemoryMatch → Bool
-is_judged None memory judged = false
-is_judged (Some j) memory judged = (judged.request == j.memory) && (judged.slot == memory)
+abbrev pub idle_ad : JobId × Job → Option Attributes
+idle_ad e = if is_idle e.1.phase then Some e.1.ad else None
 
--- there is nothing to do for a job in that phase, whose request is too large for the slot or not
-abbrev pub is_settled : Phase → Bool → Bool
-is_settled Idle too_large = too_large
-is_settled (Running judged until) too_large = false
-is_settled Held too_large = true
-is_settled (Finished end) too_large = true
+-- the ads of the idle jobs, in the order of their submission
+abbrev pub idle_ads : List (JobId × Job) → List Attributes
+idle_ads jobs = filter_map idle_ad jobs
 
--- the job was submitted, and nothing is left to do for it on a slot of that memory
-abbrev pub is_quiet : Option Job → ℕ → Bool
-is_quiet None memory = false
-is_quiet (Some j) memory = is_settled j.phase (nat_lt memory j.memory)
+abbrev pub slot_ads : List SlotAd → List Attributes
+slot_ads slots = map (λ s. s.ad) slots
+
+-- the match is one of that job's ad and that slot's, at that reading
+abbrev pub is_judged : Option Job → Option SlotAd → ℕ → Judgement → Bool
+is_judged None slot reading judged = false
+is_judged (Some j) None reading judged = false
+is_judged (Some j) (Some s) reading judged = (judged.at == reading) && (same_ad judged.job j.ad && same_ad judged.slot s.ad)
+
+-- no idle job was found to match a slot, at that reading
+abbrev pub is_settled : PoolValue → ℕ → Mismatch → Bool
+is_settled p reading none = (none.at == reading) && (same_ads none.jobs (idle_ads p.jobs) && same_ads none.slots (slot_ads p.slots))
+
+abbrev pub no_slot : SlotId
+no_slot = record { machine = 0; slot = 0 }
+
+abbrev pub first_slot : List SlotAd → SlotId
+first_slot [] = no_slot
+first_slot (s ∷ ss) = s.slot
+
+abbrev pub has_runs : List (SlotId × Run) → Bool
+has_runs [] = false
+has_runs (r ∷ rs) = true
+
+abbrev pub start_refusal : PoolValue → JobId → SlotId → Judgement → ℕ → Option StepError
+start_refusal p job slot judged reading =
+    if is_some (run_at slot p.runs) || not (is_idle_job (job_at job p.jobs)) then Some (Occupied slot job)
+    else (if is_judged (job_at job p.jobs) (slot_at slot p.slots) reading judged then None else Some (AdMoved slot))
+
+abbrev pub close_refusal : PoolValue → ℕ → Mismatch → Option StepError
+close_refusal p reading none = if is_settled p reading none then (if has_runs p.runs then Some NotQuiet else None) else Some (AdMoved (first_slot p.slots))
 
 -- why a pool that isn't closed refuses an event
-abbrev pub open_refusal : Pool → Event → Option StepError
-open_refusal p (Submit program memory reading) = if is_some p.job then Some Jobs else None
-open_refusal p (Start judged reading) = if has_idle p.job then (if is_judged p.job p.memory judged then None else Some AdMoved) else Some Occupied
-open_refusal p (Ended end reading) = if has_run p.job then None else Some NoRun
-open_refusal p (Close reading) = if is_quiet p.job p.memory then None else Some NotQuiet
+abbrev pub open_refusal : PoolValue → Event → Option StepError
+open_refusal p (Submit jobs reading) = if nat_lt 10000 (length p.jobs + length jobs) then Some Jobs else None
+open_refusal p (Start job slot judged reading) = start_refusal p job slot judged reading
+open_refusal p (Ended job end reading) = if is_some (run_of_job (job_at job p.jobs)) then None else Some (NoRun job)
+open_refusal p (Close reading none) = close_refusal p reading none
 
 -- why the pool refuses an event
-abbrev pub refusal : Pool → Event → Option StepError
+abbrev pub refusal : PoolValue → Event → Option StepError
 refusal p ev = if p.closed then Some Closed else open_refusal p ev
 
--- what a job is started with: its program, and nothing else
-abbrev pub launch_of : Option Job → Launch
-launch_of None = record { program = []; words = []; folder = []; input = []; output = []; errors = [] }
-launch_of (Some j) = record { program = j.program; words = []; folder = []; input = []; output = []; errors = [] }
+-- ---- what is answered
+
+-- an attribute's string; one that isn't there, or is no literal string, counts as empty
+abbrev pub string_in : Option Tree → List ℕ
+string_in (Some (literal (text s))) = s
+string_in _ = []
+
+abbrev pub string_of : Attributes → List ℕ → List ℕ
+string_of ad name = string_in (lookup name ad)
+
+-- what a job is started with (HTCondor manual, Job ClassAd Attributes, Cmd, Iwd, In, Out, Err); it gets no words yet
+abbrev pub launch_of : Attributes → Launch
+launch_of ad = record {
+  program = string_of ad (codes "Cmd");
+  words = [];
+  folder = string_of ad (codes "Iwd");
+  input = string_of ad (codes "In");
+  output = string_of ad (codes "Out");
+  errors = string_of ad (codes "Err");
+}
 
 -- what the pool answers to an event that it accepts
-abbrev pub answer_to : Pool → Event → Answer
-answer_to p (Submit program memory reading) = answer.Done
-answer_to p (Start judged reading) = answer.Launch (launch_of p.job)
-answer_to p (Ended end reading) = answer.Done
-answer_to p (Close reading) = answer.Done
+abbrev pub answer_to : PoolValue → Event → Answer
+answer_to p (Submit jobs reading) = answer.Done
+answer_to p (Start job slot judged reading) = answer.Launch (launch_of judged.job)
+answer_to p (Ended job end reading) = answer.Done
+answer_to p (Close reading none) = answer.Done
 
-abbrev pub in_phase : Phase → Job → Job
-in_phase phase j = record j { phase = phase }
+-- ---- what changes
+
+-- jobs of a cluster, from a proc on
+abbrev pub numbered_jobs : ℕ → ℕ → List Attributes → List (JobId × Job)
+numbered_jobs cluster proc [] = []
+numbered_jobs cluster proc (ad ∷ ads) = (record { cluster = cluster; proc = proc }, record { ad = ad; phase = Idle }) ∷ numbered_jobs cluster (proc + 1) ads
+
+-- a submission with jobs is one more cluster
+abbrev pub clusters_after : ℕ → List Attributes → ℕ
+clusters_after clusters [] = clusters
+clusters_after clusters (ad ∷ ads) = clusters + 1
+
+-- the first job of that number stands so
+abbrev pub with_phase : JobId → Phase → List (JobId × Job) → List (JobId × Job)
+with_phase job phase [] = []
+with_phase job phase (e ∷ es) = if same_job job e.0 then (e.0, record e.1 { phase = phase }) ∷ es else e ∷ with_phase job phase es
+
+abbrev pub without_run : SlotId → List (SlotId × Run) → List (SlotId × Run)
+without_run slot [] = []
+without_run slot (r ∷ rs) = if same_slot slot r.0 then rs else r ∷ without_run slot rs
 
 -- a job whose run has ended is finished, and one that couldn't be started is held
-abbrev pub phase_after : End → Phase
-phase_after (Exited code) = Finished (Exited code)
-phase_after (Signalled signal) = Finished (Signalled signal)
-phase_after NotStarted = Held
+abbrev pub phase_after : RunName → End → Phase
+phase_after run (Exited code) = Finished run (Exited code)
+phase_after run (Signalled signal) = Finished run (Signalled signal)
+phase_after run NotStarted = Held run
 
-abbrev pub job_after : Option Job → Event → Option Job
-job_after job (Submit program memory reading) = Some (record { program = program; memory = memory; phase = Idle })
-job_after job (Start judged reading) = option_map (in_phase (Running judged reading)) job
-job_after job (Ended end reading) = option_map (in_phase (phase_after end)) job
-job_after job (Close reading) = job
+abbrev pub run_named : SlotId → ℕ → RunName
+run_named slot number = record { slot = slot; number = number }
 
-abbrev pub closed_after : Bool → Event → Bool
-closed_after closed (Submit program memory reading) = closed
-closed_after closed (Start judged reading) = closed
-closed_after closed (Ended end reading) = closed
-closed_after closed (Close reading) = true
+abbrev pub submitted : PoolValue → List Attributes → PoolValue
+submitted p ads = record p { jobs = p.jobs ++ numbered_jobs (p.clusters + 1) 0 ads; clusters = clusters_after p.clusters ads }
+
+-- its lease ends at the reading
+abbrev pub started : PoolValue → JobId → SlotId → Judgement → ℕ → PoolValue
+started p job slot judged reading = record p {
+  jobs = with_phase job (Running (run_named slot (p.started + 1)) reading) p.jobs;
+  runs = p.runs ++ (slot, record { job = job; number = p.started + 1; judged = judged; until = reading }) ∷ [];
+  started = p.started + 1;
+}
+
+abbrev pub ended_with : PoolValue → JobId → End → Option RunName → PoolValue
+ended_with p job end None = p
+ended_with p job end (Some run) = record p { jobs = with_phase job (phase_after run end) p.jobs; runs = without_run run.slot p.runs }
+
+abbrev pub ended : PoolValue → JobId → End → PoolValue
+ended p job end = ended_with p job end (run_of_job (job_at job p.jobs))
+
+abbrev pub changed : PoolValue → Event → PoolValue
+changed p (Submit jobs reading) = submitted p jobs
+changed p (Start job slot judged reading) = started p job slot judged reading
+changed p (Ended job end reading) = ended p job end
+changed p (Close reading none) = record p { closed = true }
 
 -- the pool after an event that it accepts
-abbrev pub after : Pool → Event → Pool
-after p ev = record { name = p.name; memory = p.memory; latest = max p.latest (reading_of ev); job = job_after p.job ev; closed = closed_after p.closed ev }
+abbrev pub after : PoolValue → Event → PoolValue
+after p ev = record (changed p ev) { latest = max p.latest (reading_of ev) }

@@ -2,6 +2,7 @@ ghost use Rattle.std.specs.Prelude.{◌≡◌, IfOk};
 ghost use Rattle.pool_core.specs.declared.answer.StepError.TheVariants.{Memory as NoMemory};
 ghost use Rattle.pool_core.specs.Answers.{kept_of};
 
+use crate::numbers::{JobId, SlotId};
 use ad_value::{Copied, Memory};
 use pool_outer::Launch;
 use std::alloc::Global;
@@ -34,20 +35,21 @@ pub enum StepError {
     /// After a Close.
     #[error("the pool is closed")]
     Closed,
-    /// A second Submit.
-    #[error("there is a job already")]
+    /// A Submit with which more than 10,000 jobs were submitted.
+    #[error("the pool has 10000 jobs at most")]
     Jobs,
-    /// A Start where no job is idle.
-    #[error("the slot has a run, or no job is idle")]
-    Occupied,
-    /// A Start whose match isn't one of the job's and the slot's numbers.
-    #[error("the match is not of this job and this slot")]
-    AdMoved,
-    /// An Ended where nothing runs.
-    #[error("nothing runs")]
-    NoRun,
-    /// A Close before a Submit, while the job runs, or while it is idle and fits the slot.
-    #[error("something is left to do")]
+    /// A Start of a slot that has a run, or of a job that isn't idle or isn't there.
+    #[error("the slot has a run, or the job is not idle")]
+    Occupied { slot: SlotId, job: JobId },
+    /// A Start whose match isn't one of the job's ad and the slot's, or not of its reading. A Close whose want of a match isn't one
+    /// of the idle jobs' ads and all slots' ads, or not of its reading: `slot` is the pool's first.
+    #[error("what was judged is not what the pool has")]
+    AdMoved { slot: SlotId },
+    /// An Ended of a job that has no run or isn't there.
+    #[error("the job has no run")]
+    NoRun { job: JobId },
+    /// A Close while a slot has a run.
+    #[error("a run has not ended")]
     NotQuiet,
     #[error("out of memory")]
     Memory,

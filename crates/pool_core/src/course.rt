@@ -8,12 +8,13 @@ use crate::answer::{Answer, StepError, Stepped};
 use crate::event::Event;
 use crate::history::{History, Step, StepList};
 use crate::pool::Pool;
-use ad_value::{Copied, Memory, Text};
+use crate::slot::SlotAdList;
+use ad_value::{Copied, Memory};
 use std::alloc::Global;
 use std::marker::Model;
 
 /// A pool beside its history, which leads from the pool's opening to the pool.
-#[derive(Debug, Drop)]
+#[derive(Drop)]
 pub struct Course {
     opening: Pool,
     steps: Vec<Step>,
@@ -25,22 +26,28 @@ impl Model for Course {
     ghost use Rattle.pool_core.specs.CourseValue.{CourseValue};
     ghost use Rattle.pool_core.specs.Reactions.{opening_pool};
     ghost use Rattle.pool_core.specs.Histories.{LeadsTo};
+    ghost use Rattle.std.specs.Coded.{codes};
+    ghost use Rattle.pool_core.specs.contracts.history.Step as step;
+    ghost use Rattle.pool_core.specs.contracts.pool.Pool as pool_row;
 
     ghost Value = { CourseValue };
 
+    ghost coded = { Prim.hlevel (codes, step.the_row.coded, pool_row.the_row.coded) };
+
     ghost view = { λ c. record { opening = c.opening; list = c.steps.items; pool = c.pool } };
 
-    ghost invariant = { λ c. (c.opening ≡ opening_pool c.opening.name c.opening.memory) × LeadsTo c.opening c.steps.items c.pool };
+    ghost invariant = { λ c. (c.opening ≡ opening_pool c.opening.slots) × LeadsTo c.opening c.steps.items c.pool };
 }
 
 impl Course {
-    /// A pool of a machine, to which nothing has happened.
-    pub fn open(alloc: Global, name: Text, memory: u64) -> Result<Course, Memory>
-        ensures opening { IfOk result (λ c. c.opening ≡ opening_pool name memory) }
+    /// A pool of these slots, to which nothing has happened. The opening is a copy of the pool.
+    pub fn open(alloc: Global, slots: SlotAdList) -> Result<Course, Memory>
+        requires { slots ≢ [] }
+        ensures opening { IfOk result (λ c. c.opening ≡ opening_pool slots) }
         ensures list { IfOk result (λ c. c.list ≡ []) }
-        ensures pool { IfOk result (λ c. c.pool ≡ opening_pool name memory) }
+        ensures pool { IfOk result (λ c. c.pool ≡ opening_pool slots) }
     {
-        let pool = Pool::open(name, memory);
+        let pool = Pool::open(alloc, slots);
         Ok(Course {
             opening: pool.copy(alloc)?,
             steps: Vec::new(alloc),
@@ -54,7 +61,7 @@ impl Course {
         &self.pool
     }
 
-    /// One event. A refused one changes nothing. Costs as much as the event, however long the history is, but that
+    /// One event. A refused one changes nothing. Costs as much as `Pool::step`, however long the history is, but that
     /// the list of events doubles its room where it is full.
     pub fn act(&mut self, alloc: Global, ev: Event) -> Result<Answer, StepError>
         ensures accepted { OnOk result (refusal self.old.pool ev ≡ None) }
@@ -76,9 +83,9 @@ impl Course {
 
     /// The history, and the pool that it leads to. Takes no memory.
     pub fn finish(self) -> (History, Pool)
-        ensures history { IsHistory self.opening.name self.opening.memory result.0 result.1 }
+        ensures history { IsHistory self.opening.slots result.0 result.1 }
         ensures safe { EachMoves self.opening self.list }
-        ensures shows { Shows self.opening.name self.opening.memory self.list result.1 }
+        ensures shows { Shows self.opening.slots self.list result.1 }
         ensures list { result.0.list ≡ self.list }
         ensures pool { result.1 ≡ self.pool }
     {

@@ -1,8 +1,9 @@
 ghost use Rattle.std.specs.Prelude.{◌≡◌};
 ghost use Rattle.pool_core.specs.Events.{reading_of};
 
-use crate::memory_match::MemoryMatch;
-use ad_value::Text;
+use crate::numbers::{JobId, SlotId};
+use ad_eval::{Judged, NoMatch};
+use ad_tree::AdList;
 
 /// How a run ended: by an exit code, by a signal's number, or before it began.
 #[derive(Clone, Copy, Debug, PartialEq, Eq)]
@@ -12,28 +13,31 @@ pub enum End {
     NotStarted,
 }
 
-/// What happens in a pool. Memory is in MiB, and a reading in seconds since 1970-01-01 00:00:00 UTC.
-#[derive(Debug, Drop)]
+/// What happens in a pool. A reading is in seconds since 1970-01-01 00:00:00 UTC.
+#[derive(Drop)]
 pub enum Event {
-    /// The job is submitted: `executable` and `request_memory` of its submit file.
+    /// Jobs are submitted, as one cluster of the next number, where there are any; procs count from 0.
     Submit {
-        program: Text,
-        memory: u64,
+        jobs: AdList,
         reading: u64,
     },
-    /// The slot starts the job, whose request was judged to fit.
+    /// The slot starts the job, which was judged to match it at that reading.
     Start {
-        judged: MemoryMatch,
+        job: JobId,
+        slot: SlotId,
+        judged: Judged,
         reading: u64,
     },
     /// The job's run has ended.
     Ended {
+        job: JobId,
         end: End,
         reading: u64,
     },
-    /// Nothing is left to do.
+    /// Nothing is left to do: no idle job matches a slot at that reading.
     Close {
         reading: u64,
+        none: NoMatch,
     },
 }
 
@@ -45,7 +49,7 @@ impl Event {
             Event::Submit { reading, .. }
             | Event::Start { reading, .. }
             | Event::Ended { reading, .. }
-            | Event::Close { reading } => *reading,
+            | Event::Close { reading, .. } => *reading,
         }
     }
 }

@@ -4,7 +4,7 @@ use crate::pool::Pool;
 use ad_value::Seq;
 
 /// An accepted event with its answer.
-#[derive(Debug, Drop)]
+#[derive(Drop)]
 pub struct Step {
     pub event: Event,
     pub kept: Kept,
@@ -14,7 +14,7 @@ pub struct Step {
 pub type StepList = Seq<Step>;
 
 /// What happened: the pool as it was opened, if one was, and the events that it accepted.
-#[derive(Debug, Drop)]
+#[derive(Drop)]
 pub struct History {
     pub opening: Option<Pool>,
     /// Whether the input had a load; this pool takes none.

@@ -1,9 +1,10 @@
 //! What holds of every history, and of every abstract pool.
 
-ghost use Rattle.std.specs.Prelude.{◌≡◌, ℕ, List, [], ◌∷◌, ◌++◌, None};
+ghost use Rattle.std.specs.Prelude.{◌≡◌, List, [], ◌∷◌, ◌++◌, None};
 ghost use Rattle.pool_core.specs.declared.event.Event.{Event};
 ghost use Rattle.pool_core.specs.declared.history.Step.{Step};
-ghost use Rattle.pool_core.specs.declared.pool.Pool.{Pool};
+ghost use Rattle.pool_core.specs.declared.slot.SlotAd.{SlotAd};
+ghost use Rattle.pool_core.specs.PoolValue.{PoolValue, IsConsistent};
 ghost use Rattle.pool_core.specs.Reactions.{opening_pool, refusal, after};
 ghost use Rattle.pool_core.specs.Histories.{Reacts, LeadsTo, Shows};
 ghost use Rattle.pool_core.specs.Ads.{Core};
@@ -16,22 +17,27 @@ ghost use Rattle.pool_core.specs.Moving.{steps_of, EachMoves};
 
 /// A history goes on by one more accepted event.
 pub fn histories_grow()
-    ensures { (p q r : Pool) (list : List Step) (s : Step) → LeadsTo p list q → Reacts q s.event s.kept r → LeadsTo p (list ++ s ∷ []) r }
+    ensures { (p q r : PoolValue) (list : List Step) (s : Step) → LeadsTo p list q → Reacts q s.event s.kept r → LeadsTo p (list ++ s ∷ []) r }
 {}
 
-/// An event that a pool accepts makes the abstract steps named for it, whatever the pool.
+/// An event that a pool accepts keeps what always holds of a pool.
+pub fn events_keep_consistent()
+    ensures { (p : PoolValue) (ev : Event) → IsConsistent p → refusal p ev ≡ None → IsConsistent (after p ev) }
+{}
+
+/// An event that a pool accepts makes the abstract steps named for it.
 pub fn events_make_steps()
-    ensures { (p : Pool) (ev : Event) → refusal p ev ≡ None → Takes (view_of p) (steps_of p ev) (view_of (after p ev)) }
+    ensures { (p : PoolValue) (ev : Event) → IsConsistent p → refusal p ev ≡ None → Takes (view_of p) (steps_of p ev) (view_of (after p ev)) }
 {}
 
 /// Whatever the events and their readings, each moves the pool by steps of the abstract pool, and every pool is safe.
 pub fn histories_are_safe()
-    ensures { (name : List ℕ) (memory : ℕ) (list : List Step) (p : Pool) → LeadsTo (opening_pool name memory) list p → EachMoves (opening_pool name memory) list }
+    ensures { (slots : List SlotAd) (list : List Step) (p : PoolValue) → LeadsTo (opening_pool slots) list p → EachMoves (opening_pool slots) list }
 {}
 
 /// A pool shows what its history says.
 pub fn histories_are_shown()
-    ensures { (name : List ℕ) (memory : ℕ) (list : List Step) (p : Pool) → LeadsTo (opening_pool name memory) list p → Shows name memory list p }
+    ensures { (slots : List SlotAd) (list : List Step) (p : PoolValue) → LeadsTo (opening_pool slots) list p → Shows slots list p }
 {}
 
 /// Every step that may be made keeps an abstract pool safe, and its runs within the leases of their jobs.

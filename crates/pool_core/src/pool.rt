@@ -1,87 +1,163 @@
-ghost use Rattle.std.specs.Prelude.{◌≡◌, ◌≢◌, None, Some, IfOk, IfErr, IfSome, IsErrOf, OnErr, OnOk, option_map};
+ghost use Rattle.std.specs.Prelude.{◌≡◌, ◌≢◌, ◌≤◌, ◌+◌, [], true, nat_lt, length, slice_get, None, Some, IfOk, IfErr, IfSome, IsErrOf, OnErr, OnOk};
+ghost use Rattle.std.specs.Option.{option_map, option_copied};
 ghost use Rattle.pool_core.specs.Answers.{kept_of};
-ghost use Rattle.pool_core.specs.Reactions.{opening_pool, has_idle, has_run, is_judged, is_quiet, refusal, answer_to, launch_of, in_phase, phase_after, after};
+ghost use Rattle.pool_core.specs.PoolValue.{job_at, run_at, slot_at};
+ghost use Rattle.pool_core.specs.Reading.{idle_jobs, has_unfinished};
+ghost use Rattle.pool_core.specs.Sameness.{same_ads};
+ghost use Rattle.pool_core.specs.Reactions.{opening_pool, refusal, start_refusal, close_refusal, is_idle_job, is_judged, is_settled, run_of_job, answer_to, submitted, started, phase_after, ended, after, idle_ads, slot_ads};
 
+use crate::ads::is_same;
 use crate::answer::{Answer, StepError, Stepped};
 use crate::event::{End, Event};
-use crate::memory_match::MemoryMatch;
-use ad_value::{Copied, Memory, Seq, Text};
-use pool_outer::Launch;
+use crate::job::{Job, Phase, Run, RunName};
+use crate::jobs::{self, JobTable};
+use crate::launching::launch_of;
+use crate::numbers::{JobId, SlotId};
+use crate::runs::{RunTable, add_run, copy_runs, remove_run};
+use crate::slot::{self, SlotAdList};
+use ad_eval::{Judged, NoMatch};
+use ad_tree::{Ad, AdList};
+use ad_value::{Copied, Memory};
+use indexmap::IndexMap;
 use std::alloc::Global;
+use std::marker::Model;
 
-/// How a job stands (HTCondor manual, Job ClassAd Attributes, JobStatus: Idle, Running, Held, Completed). A job that
-/// could not be started is held.
-#[derive(Clone, Copy, Debug)]
-pub enum Phase {
-    Idle,
-    /// `until` is the end of its lease, a reading.
-    Running { judged: MemoryMatch, until: u64 },
-    Held,
-    Finished { end: End },
-}
+/// How many jobs a pool takes, over all its submissions.
+pub const MAX_JOBS: usize = 10_000;
 
-/// A job: its program and the memory that it asks for, in MiB (HTCondor manual, condor_submit, executable and
-/// request_memory), and how it stands.
-#[derive(Debug, Drop)]
-pub struct Job {
-    pub program: Text,
-    pub memory: u64,
-    pub phase: Phase,
-}
-
-/// A pool of one machine, whose one slot has all its memory, in MiB. Its job is 1.0.
-#[derive(Debug, Drop)]
+/// A pool of slots and jobs, which contracts see as a `PoolValue`.
+#[derive(Drop)]
 pub struct Pool {
-    /// The machine's name.
-    pub name: Text,
-    pub memory: u64,
-    /// The greatest reading so far, 0 at first.
-    pub latest: u64,
-    pub job: Option<Job>,
-    pub closed: bool,
+    slots: SlotAdList,
+    jobs: JobTable,
+    runs: RunTable,
+    clusters: u32,
+    started: u64,
+    latest: u64,
+    closed: bool,
 }
 
-impl Copied for Job {
-    fn copy(&self, alloc: Global) -> Result<Job, Memory> {
-        Ok(Job {
-            program: self.program.copy(alloc)?,
-            memory: self.memory,
-            phase: self.phase,
-        })
+impl Model for Pool {
+    ghost use Rattle.pool_core.specs.PoolValue.{PoolValue, pool_value, IsConsistent};
+    ghost use Rattle.std.specs.Coded.{codes};
+    ghost use Rattle.pool_core.specs.contracts.slot.SlotAd as slot_ad;
+    ghost use Rattle.pool_core.specs.contracts.job.Job as job;
+    ghost use Rattle.pool_core.specs.contracts.job.Run as run;
+
+    ghost Value = { PoolValue };
+
+    ghost coded = { Prim.hlevel (codes, slot_ad.the_row.coded, job.the_row.coded, run.the_row.coded) };
+
+    ghost view = { λ p. pool_value p.slots p.jobs.entries p.runs.entries p.clusters p.started p.latest p.closed };
+
+    ghost invariant = { λ p. IsConsistent (pool_value p.slots p.jobs.entries p.runs.entries p.clusters p.started p.latest p.closed) };
+}
+
+impl Pool {
+    /// A pool of these slots, without jobs. Takes no memory.
+    pub fn open(alloc: Global, slots: SlotAdList) -> Pool
+        requires { slots ≢ [] }
+        ensures { result ≡ opening_pool slots }
+    {
+        Pool {
+            slots,
+            jobs: IndexMap::new(alloc),
+            runs: IndexMap::new(alloc),
+            clusters: 0,
+            started: 0,
+            latest: 0,
+            closed: false,
+        }
+    }
+
+    pub fn slots(&self) -> &SlotAdList
+        ensures { result.now ≡ self.now.slots }
+    {
+        &self.slots
+    }
+
+    /// The job of that number, in time that does not grow with the pool.
+    pub fn job(&self, job: JobId) -> Option<&Job>
+        ensures { option_copied result ≡ job_at job self.now.jobs }
+    {
+        self.jobs.get(&job)
+    }
+
+    /// The job that was submitted at that place, from 0, in constant time.
+    pub fn job_at(&self, place: usize) -> Option<(JobId, &Job)>
+        ensures { option_map (λ e. (e.0, e.1.now)) result ≡ slice_get self.now.jobs place }
+    {
+        let (id, job) = self.jobs.get_index(place)?;
+        Some((*id, job))
+    }
+
+    /// How many jobs were submitted, in constant time.
+    pub fn job_count(&self) -> usize
+        ensures count { result ≡ length self.now.jobs }
+        ensures few { result ≤ 10000 }
+    {
+        self.jobs.len()
+    }
+
+    /// Copies of the ads of the idle jobs, in the order of their submission. Walks over all jobs.
+    pub fn idle_ads(&self, alloc: Global) -> Result<AdList, Memory>
+        ensures { IfOk result (λ l. l ≡ idle_ads self.now.jobs) }
+    {
+        jobs::idle_ads(alloc, &self.jobs)
+    }
+
+    /// The idle job at a place among the idle ones, from 0. Walks over the jobs up to it.
+    pub fn idle_job(&self, place: usize) -> Option<(JobId, &Ad)>
+        ensures { option_map (λ e. (e.0, e.1.now)) result ≡ slice_get (idle_jobs self.now.jobs) place }
+    {
+        jobs::idle_job(&self.jobs, place)
+    }
+
+    /// Copies of the slots' ads.
+    pub fn slot_ads(&self, alloc: Global) -> Result<AdList, Memory>
+        ensures { IfOk result (λ l. l ≡ slot_ads self.now.slots) }
+    {
+        slot::slot_ads(alloc, self.slots.as_slice())
+    }
+
+    /// The greatest reading so far, in seconds since 1970-01-01 00:00:00 UTC, 0 at first.
+    pub fn latest(&self) -> u64
+        ensures { result ≡ self.now.latest }
+    {
+        self.latest
+    }
+
+    pub fn is_closed(&self) -> bool
+        ensures { result ≡ self.now.closed }
+    {
+        self.closed
+    }
+
+    /// Whether some job isn't finished. Walks over the jobs up to it.
+    pub fn has_unfinished(&self) -> bool
+        ensures { result ≡ has_unfinished self.now.jobs }
+    {
+        jobs::has_unfinished(&self.jobs)
     }
 }
 
 impl Copied for Pool {
     fn copy(&self, alloc: Global) -> Result<Pool, Memory> {
-        let job = match &self.job {
-            None => None,
-            Some(job) => Some(job.copy(alloc)?),
-        };
         Ok(Pool {
-            name: self.name.copy(alloc)?,
-            memory: self.memory,
+            slots: self.slots.copy(alloc)?,
+            jobs: jobs::copy_jobs(alloc, &self.jobs)?,
+            runs: copy_runs(alloc, &self.runs)?,
+            clusters: self.clusters,
+            started: self.started,
             latest: self.latest,
-            job,
             closed: self.closed,
         })
     }
 }
 
 impl Pool {
-    /// A pool without a job. Takes no memory.
-    pub fn open(name: Text, memory: u64) -> Pool
-        ensures { result ≡ opening_pool name memory }
-    {
-        Pool {
-            name,
-            memory,
-            latest: 0,
-            job: None,
-            closed: false,
-        }
-    }
-
-    /// One event. A refused one changes nothing. Takes memory for the answer, its equal and a submitted program.
+    /// One event. A refused one changes nothing. Takes memory for the answer, its equal and what the pool keeps of the event. A
+    /// Close walks over all jobs, and a Start over the slots up to its own; no other event's time grows with the pool.
     pub fn step(&mut self, alloc: Global, ev: &Event) -> Result<Stepped, StepError>
         ensures accepted { OnOk result (refusal self.old ev.now ≡ None) }
         ensures answer { IfOk result (λ s. s.answer ≡ answer_to self.old ev.now) }
@@ -109,54 +185,114 @@ impl Pool {
             return Some(StepError::Closed);
         }
         match ev {
-            Event::Submit { .. } if self.job.is_some() => Some(StepError::Jobs),
-            Event::Start { .. } if !self.has_idle() => Some(StepError::Occupied),
-            Event::Start { judged, .. } if !self.is_judged(judged) => Some(StepError::AdMoved),
-            Event::Ended { .. } if !self.has_run() => Some(StepError::NoRun),
-            Event::Close { .. } if !self.is_quiet() => Some(StepError::NotQuiet),
+            Event::Submit { jobs, .. } if self.is_full_for(jobs) => Some(StepError::Jobs),
+            Event::Start {
+                job,
+                slot,
+                judged,
+                reading,
+            } => self.start_refusal(*job, *slot, judged, *reading),
+            Event::Ended { job, .. } if self.run_of(*job).is_none() => {
+                Some(StepError::NoRun { job: *job })
+            }
+            Event::Close { reading, none } => self.close_refusal(*reading, none),
             _ => None,
         }
     }
 
-    fn has_idle(&self) -> bool
-        ensures { result ≡ has_idle self.now.job }
+    // Whether the jobs would be too many.
+    fn is_full_for(&self, jobs: &AdList) -> bool
+        ensures { result ≡ nat_lt 10000 (length self.now.jobs + length jobs.now) }
     {
-        match &self.job {
-            None => false,
-            Some(job) => matches!(job.phase, Phase::Idle),
+        jobs.len() > MAX_JOBS - self.jobs.len()
+    }
+
+    // Why a Start isn't accepted where the pool is open.
+    fn start_refusal(
+        &self,
+        job: JobId,
+        slot: SlotId,
+        judged: &Judged,
+        reading: u64,
+    ) -> Option<StepError>
+        ensures { result ≡ start_refusal self.now job slot judged.now reading }
+    {
+        if self.runs.contains_key(&slot) || !self.has_idle(job) {
+            return Some(StepError::Occupied { slot, job });
+        }
+        if self.is_judged(job, slot, judged, reading) {
+            None
+        } else {
+            Some(StepError::AdMoved { slot })
         }
     }
 
-    fn has_run(&self) -> bool
-        ensures { result ≡ has_run self.now.job }
+    // Whether the job is there and idle.
+    fn has_idle(&self, job: JobId) -> bool
+        ensures { result ≡ is_idle_job (job_at job self.now.jobs) }
     {
-        match &self.job {
+        match self.jobs.get(&job) {
             None => false,
-            Some(job) => matches!(job.phase, Phase::Running { .. }),
+            Some(job) => job.phase.is_idle(),
         }
     }
 
-    // Whether a match is one of the job's and the slot's numbers.
-    fn is_judged(&self, judged: &MemoryMatch) -> bool
-        ensures { result ≡ is_judged self.now.job self.now.memory judged.now }
+    // Whether the match is one of that job's ad and that slot's, at that reading.
+    fn is_judged(&self, job: JobId, slot: SlotId, judged: &Judged, reading: u64) -> bool
+        ensures { result ≡ is_judged (job_at job self.now.jobs) (slot_at slot self.now.slots) reading judged.now }
     {
-        match &self.job {
-            None => false,
-            Some(job) => judged.request == job.memory && judged.slot == self.memory,
+        let Some(job) = self.jobs.get(&job) else {
+            return false;
+        };
+        let Some(slot) = slot::slot_at(slot, self.slots.as_slice()) else {
+            return false;
+        };
+        judged.at() == reading
+            && (is_same(judged.job(), &job.ad) && is_same(judged.slot(), &slot.ad))
+    }
+
+    // The run that the job has.
+    fn run_of(&self, job: JobId) -> Option<RunName>
+        ensures { result ≡ run_of_job (job_at job self.now.jobs) }
+    {
+        match self.jobs.get(&job) {
+            None => None,
+            Some(job) => job.phase.run(),
         }
     }
 
-    fn is_quiet(&self) -> bool
-        ensures { result ≡ is_quiet self.now.job self.now.memory }
+    // Why a Close isn't accepted where the pool is open.
+    fn close_refusal(&self, reading: u64, none: &NoMatch) -> Option<StepError>
+        ensures { result ≡ close_refusal self.now reading none.now }
     {
-        match &self.job {
-            None => false,
-            Some(job) => match job.phase {
-                Phase::Idle => self.memory < job.memory,
-                Phase::Running { .. } => false,
-                Phase::Held | Phase::Finished { .. } => true,
-            },
+        if !self.is_settled(reading, none) {
+            let slot = slot::first_slot(self.slots.as_slice());
+            return Some(StepError::AdMoved { slot });
         }
+        if self.runs.is_empty() {
+            None
+        } else {
+            Some(StepError::NotQuiet)
+        }
+    }
+
+    // Whether it was found that no idle job matches a slot, at that reading.
+    fn is_settled(&self, reading: u64, none: &NoMatch) -> bool
+        ensures { result ≡ is_settled self.now reading none.now }
+    {
+        none.at() == reading && (self.are_idle_ads(none.jobs()) && self.are_slot_ads(none.slots()))
+    }
+
+    fn are_idle_ads(&self, ads: &AdList) -> bool
+        ensures { result ≡ same_ads ads.now (idle_ads self.now.jobs) }
+    {
+        jobs::are_idle_ads(ads.as_slice(), &self.jobs)
+    }
+
+    fn are_slot_ads(&self, ads: &AdList) -> bool
+        ensures { result ≡ same_ads ads.now (slot_ads self.now.slots) }
+    {
+        slot::are_slot_ads(ads.as_slice(), self.slots.as_slice())
     }
 
     // The answer to an event that is accepted.
@@ -164,8 +300,8 @@ impl Pool {
         ensures { IfOk result (λ a. a ≡ answer_to self.now ev.now) }
     {
         match ev {
-            Event::Start { .. } => Ok(Answer::Launch {
-                what: launch_of(alloc, &self.job)?,
+            Event::Start { judged, .. } => Ok(Answer::Launch {
+                what: launch_of(alloc, judged.job())?,
             }),
             Event::Submit { .. } | Event::Ended { .. } | Event::Close { .. } => Ok(Answer::Done),
         }
@@ -173,67 +309,84 @@ impl Pool {
 
     // The change that an accepted event makes; without memory for it, none.
     fn change(&mut self, alloc: Global, ev: &Event) -> Result<(), Memory>
+        requires { refusal self.old ev.now ≡ None }
         ensures ok { OnOk result (self.new ≡ after self.old ev.now) }
         ensures err { OnErr result (self.new ≡ self.old) }
     {
         match ev {
-            Event::Submit {
-                program,
-                memory,
-                ..
-            } => {
-                self.job = Some(Job {
-                    program: program.copy(alloc)?,
-                    memory: *memory,
-                    phase: Phase::Idle,
-                });
-            }
-            Event::Start { judged, reading } => set_phase(
-                &mut self.job,
-                Phase::Running {
-                    judged: *judged,
-                    until: *reading,
-                },
-            ),
-            Event::Ended { end, .. } => set_phase(&mut self.job, phase_after(*end)),
+            Event::Submit { jobs, .. } => self.submit(alloc, jobs)?,
+            Event::Start {
+                job,
+                slot,
+                judged,
+                reading,
+            } => self.start(alloc, *job, *slot, judged, *reading)?,
+            Event::Ended { job, end, .. } => self.end(*job, *end),
             Event::Close { .. } => self.closed = true,
         }
         self.latest = self.latest.max(ev.reading());
         Ok(())
     }
+
+    fn submit(&mut self, alloc: Global, ads: &AdList) -> Result<(), Memory>
+        requires { length self.old.jobs + length ads.now ≤ 10000 }
+        ensures ok { OnOk result (self.new ≡ submitted self.old ads.now) }
+        ensures err { OnErr result (self.new ≡ self.old) }
+    {
+        if ads.is_empty() {
+            return Ok(());
+        }
+        let ads = ads.copy(alloc)?;
+        self.jobs.reserve(ads.len())?;
+        self.clusters += 1;
+        jobs::add_jobs(&mut self.jobs, self.clusters, ads.into_vec());
+        Ok(())
+    }
+
+    fn start(
+        &mut self,
+        alloc: Global,
+        job: JobId,
+        slot: SlotId,
+        judged: &Judged,
+        reading: u64,
+    ) -> Result<(), Memory>
+        requires { start_refusal self.old job slot judged.now reading ≡ None }
+        ensures ok { OnOk result (self.new ≡ started self.old job slot judged.now reading) }
+        ensures err { OnErr result (self.new ≡ self.old) }
+    {
+        let judged = judged.copy(alloc)?;
+        self.runs.reserve(1)?;
+        let number = self.started + 1;
+        let until = reading;
+        let run = RunName { slot, number };
+        jobs::set_phase(&mut self.jobs, job, Phase::Running { run, until });
+        let run = Run {
+            job,
+            number,
+            judged,
+            until,
+        };
+        add_run(&mut self.runs, slot, run);
+        self.started = number;
+        Ok(())
+    }
+
+    fn end(&mut self, job: JobId, end: End)
+        ensures { self.new ≡ ended self.old job end }
+    {
+        if let Some(own) = self.run_of(job) {
+            jobs::set_phase(&mut self.jobs, job, phase_after(own, end));
+            remove_run(&mut self.runs, own.slot);
+        }
+    }
 }
 
-fn phase_after(end: End) -> Phase
-    ensures { result ≡ phase_after end }
+fn phase_after(run: RunName, end: End) -> Phase
+    ensures { result ≡ phase_after run end }
 {
     match end {
-        End::NotStarted => Phase::Held,
-        End::Exited(_) | End::Signalled(_) => Phase::Finished { end },
+        End::NotStarted => Phase::Held { run },
+        End::Exited(_) | End::Signalled(_) => Phase::Finished { run, end },
     }
-}
-
-fn set_phase(job: &mut Option<Job>, phase: Phase)
-    ensures { job.new ≡ option_map (in_phase phase) job.old }
-{
-    if let Some(job) = job {
-        job.phase = phase;
-    }
-}
-
-// What the job is started with: its program alone.
-fn launch_of(alloc: Global, job: &Option<Job>) -> Result<Launch, Memory>
-    ensures { IfOk result (λ l. l ≡ launch_of job.now) }
-{
-    let program = match job {
-        None => Text::new(alloc),
-        Some(job) => job.program.copy(alloc)?,
-    };
-    Ok(Launch {
-        program,
-        words: Seq::new(alloc),
-        folder: Text::new(alloc),
-        input: Text::new(alloc),
-        output: Text::new(alloc),
-        errors: Text::new(alloc),
-    })
 }

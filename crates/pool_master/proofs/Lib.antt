@@ -7,6 +7,7 @@ pub mod RunLists
 pub mod UserLogs
 pub mod FormLines
 pub mod Amounts
+pub mod Fitting
 pub mod Lines
 pub mod Pieces
 pub mod ThreeWords

@@ -1,5 +1,5 @@
 -- A history that grows by a step still follows the clock and the spawner.
-use Rattle.std.proofs.Common.{◌≡◌, ◌≢◌, ◌∙◌, inl, inr, ℕ, zero, suc, ◌+◌, ◌≤◌, ◌<◌, List, [], ◌∷◌, ◌++◌, length, Bool, true, false, Some, refl, sym, ap, arith}
+use Rattle.std.proofs.Common.{◌≡◌, ◌≢◌, ◌∙◌, inl, inr, ℕ, zero, suc, ◌+◌, ◌≤◌, ◌<◌, List, [], ◌∷◌, ◌++◌, length, Bool, true, false, Some, refl, sym, ap, subst, arith}
 use Rattle.std.proofs.lemmas.List.{append-nil}
 use Rattle.std.proofs.lemmas.List.Elements.{All-push}
 use Rattle.std.proofs.lemmas.List.Sums.{sum_by-append}
@@ -14,11 +14,16 @@ use Rattle.pool_core.specs.declared.event.End.TheVariants.{Exited, Signalled, No
 use Rattle.pool_core.specs.declared.event.Event.TheVariants.{Submit, Start, Ended, Close}
 use Rattle.pool_core.specs.declared.history.Step.{Step}
 use Rattle.pool_core.specs.Events.{reading_of}
-use Rattle.pool_core.specs.declared.memory_match.MemoryMatch.{MemoryMatch}
+use Rattle.pool_core.specs.declared.numbers.JobId.{JobId}
+use Rattle.pool_core.specs.declared.numbers.SlotId.{SlotId}
+use Rattle.ad_eval.specs.Judgement.{Judgement, Mismatch}
+use Rattle.ad_tree.specs.Ad.{Attributes}
 use Rattle.pool_core.specs.CourseValue.{CourseValue}
 use Rattle.pool_core.specs.Histories.{ends, end_in, submits, submit_in}
 use Rattle.pool_master.specs.Runs.{Run, ended_by, on_behind, on_run, when_started, started, started_runs, is_not_started, not_started_count, launches_of, LaunchedBy, state_of, EndAsSeen}
-use Rattle.pool_master.specs.Follows.{AreRead, Follows, IsBetween, Happens}
+use Rattle.pool_master.specs.Follows.{AreRead, Follows, IsBetween, HappensOnce}
+use Rattle.pool_master.specs.Made.{job_ad}
+use Rattle.pool_master.specs.Run.{IsSubmitted}
 use Rattle.pool_master.proofs.RunLists.{submits-more, ends-more, on_run-more, started_runs-more, launches_of-append}
 
 pub read_more : (allows : ℕ → Type 0) (list : List Step) (s : Step) → AreRead allows list → allows (reading_of s.event) → reading_of s.event ≤ 253402207200 → AreRead allows (list ++ s ∷ [])
@@ -129,8 +134,8 @@ count_more : (es : List End) (e : End) → count_by is_not_started (es ++ e ∷ 
 count_more es e = sum_by-append _ es (e ∷ [])
 
 -- an ending adds its run to those that have ended
-pub ended_started : (list : List Step) (what : Launch) (end : End) (reading : ℕ) → on_run list ≡ Some what → started_runs (list ++ record { event = Ended end reading; kept = kept.Done } ∷ []) ≡ started_runs list ++ when_started what end
-ended_started list what end reading on = started_runs-more list (record { event = Ended end reading; kept = kept.Done }) ∙ rw (on, append-nil) refl
+pub ended_started : (list : List Step) (what : Launch) (job : JobId) (end : End) (reading : ℕ) → on_run list ≡ Some what → started_runs (list ++ record { event = Ended job end reading; kept = kept.Done } ∷ []) ≡ started_runs list ++ when_started what end
+ended_started list what job end reading on = started_runs-more list (record { event = Ended job end reading; kept = kept.Done }) ∙ rw (on, append-nil) refl
 
 ended_rises : (end : End) (first before now count : ℕ) → (end ≡ NotStarted → Rose before now) → before ≤ now → RoseBy count first before → RoseBy (count + count_by is_not_started (end ∷ [])) first now
 ended_rises (Exited code) first before now count rose later old = omega arith
@@ -143,12 +148,12 @@ ended_seen runs what (Signalled signal) seen new old = seen_more runs (record { 
 ended_seen runs what NotStarted seen new old = rw append-nil old
 
 -- the run ends in the history
-pub follows_ended : (allows : ℕ → Type 0) (tells : Bool) (what : Launch) (end : End) (count : ℕ) (launches new_launches : List Launch) (seen new_seen : ℕ → ChildState) (killed new_killed : ℕ → Bool) (first before now : ℕ) (list : List Step) (reading : ℕ) → IsRun tells what end count launches new_launches seen new_seen killed new_killed before now → on_run list ≡ Some what → (tells ≡ true → launches ≡ launches_of (started_runs list)) → allows reading → reading ≤ 253402207200 → Follows allows tells launches seen killed first before list → Follows allows tells new_launches new_seen new_killed first now (list ++ record { event = Ended end reading; kept = kept.Done } ∷ [])
-follows_ended allows tells what end count launches new_launches seen new_seen killed new_killed first before now list reading run on launched allowed in_range old =
-    let runs = ended_started list what end reading on in
-    let counts : not_started_count (list ++ record { event = Ended end reading; kept = kept.Done } ∷ []) ≡ not_started_count list + count_by is_not_started (end ∷ []) = ap (count_by is_not_started) (ends-more list (record { event = Ended end reading; kept = kept.Done })) ∙ count_more (ends list) end in
+pub follows_ended : (allows : ℕ → Type 0) (tells : Bool) (what : Launch) (end : End) (count : ℕ) (launches new_launches : List Launch) (seen new_seen : ℕ → ChildState) (killed new_killed : ℕ → Bool) (first before now : ℕ) (list : List Step) (job : JobId) (reading : ℕ) → IsRun tells what end count launches new_launches seen new_seen killed new_killed before now → on_run list ≡ Some what → (tells ≡ true → launches ≡ launches_of (started_runs list)) → allows reading → reading ≤ 253402207200 → Follows allows tells launches seen killed first before list → Follows allows tells new_launches new_seen new_killed first now (list ++ record { event = Ended job end reading; kept = kept.Done } ∷ [])
+follows_ended allows tells what end count launches new_launches seen new_seen killed new_killed first before now list job reading run on launched allowed in_range old =
+    let runs = ended_started list what job end reading on in
+    let counts : not_started_count (list ++ record { event = Ended job end reading; kept = kept.Done } ∷ []) ≡ not_started_count list + count_by is_not_started (end ∷ []) = ap (count_by is_not_started) (ends-more list (record { event = Ended job end reading; kept = kept.Done })) ∙ count_more (ends list) end in
     record {
-      read = read_more allows list (record { event = Ended end reading; kept = kept.Done }) old.read allowed in_range;
+      read = read_more allows list (record { event = Ended job end reading; kept = kept.Done }) old.read allowed in_range;
       served = λ told.
           let len : length (started_runs list) ≡ count = sym (length-launches_of (started_runs list)) ∙ (ap length (sym (launched told)) ∙ run.counted told) in
           record {
@@ -159,31 +164,43 @@ follows_ended allows tells what end count launches new_launches seen new_seen ki
       not_started = rw counts (ended_rises end first before now (not_started_count list) run.not_started run.later old.not_started);
     }
 
-pub between_ended : (tells : Bool) (what : Launch) (end : End) (count : ℕ) (launches new_launches : List Launch) (seen new_seen : ℕ → ChildState) (killed new_killed : ℕ → Bool) (before now : ℕ) (list : List Step) (reading : ℕ) → IsRun tells what end count launches new_launches seen new_seen killed new_killed before now → on_run list ≡ Some what → (tells ≡ true → launches ≡ launches_of (started_runs list)) → IsBetween tells new_launches (list ++ record { event = Ended end reading; kept = kept.Done } ∷ [])
-between_ended tells what end count launches new_launches seen new_seen killed new_killed before now list reading run on launched = record {
-  none_on = on_run-more list (record { event = Ended end reading; kept = kept.Done });
-  launched = λ told. run.launched told ∙ (ap (λ (l : List Launch). l ++ launches_of (when_started what end)) (launched told) ∙ (sym (launches_of-append (started_runs list) (when_started what end)) ∙ ap launches_of (sym (ended_started list what end reading on))));
+pub between_ended : (tells : Bool) (what : Launch) (end : End) (count : ℕ) (launches new_launches : List Launch) (seen new_seen : ℕ → ChildState) (killed new_killed : ℕ → Bool) (before now : ℕ) (list : List Step) (job : JobId) (reading : ℕ) → IsRun tells what end count launches new_launches seen new_seen killed new_killed before now → on_run list ≡ Some what → (tells ≡ true → launches ≡ launches_of (started_runs list)) → IsBetween tells new_launches (list ++ record { event = Ended job end reading; kept = kept.Done } ∷ [])
+between_ended tells what end count launches new_launches seen new_seen killed new_killed before now list job reading run on launched = record {
+  none_on = on_run-more list (record { event = Ended job end reading; kept = kept.Done });
+  launched = λ told. run.launched told ∙ (ap (λ (l : List Launch). l ++ launches_of (when_started what end)) (launched told) ∙ (sym (launches_of-append (started_runs list) (when_started what end)) ∙ ap launches_of (sym (ended_started list what job end reading on))));
 }
 
--- The same, of a course.
+-- The same, of the steps of a run.
+
+abbrev pub start_step : JobId → SlotId → Judgement → ℕ → Launch → Step
+start_step job slot judged reading what = record { event = Start job slot judged reading; kept = kept.Launch what }
+
+abbrev pub end_step : JobId → End → ℕ → Step
+end_step job end reading = record { event = Ended job end reading; kept = kept.Done }
+
+abbrev pub submit_step : List Attributes → ℕ → Step
+submit_step jobs reading = record { event = Submit jobs reading; kept = kept.Done }
+
+abbrev pub close_step : ℕ → Mismatch → Step
+close_step reading none = record { event = Close reading none; kept = kept.Done }
 
 no_submit : (list : List Step) (s : Step) → filter_map (λ (x : Step). submit_in x.event) (s ∷ []) ≡ [] → submits (list ++ s ∷ []) ≡ submits list
-no_submit list s none = submits-more list s ∙ (ap (λ (l : List (List ℕ × ℕ)). submits list ++ l) none ∙ append-nil _)
+no_submit list s none = submits-more list s ∙ (ap (λ (l : List (List Attributes × ℕ)). submits list ++ l) none ∙ append-nil _)
 
-pub start_on : (allows : ℕ → Type 0) (judged : MemoryMatch) (what : Launch) (old new : CourseValue) → Happens allows (Start judged) (kept.Launch what) old new → on_run new.list ≡ Some what
-start_on allows judged what old new start = rw start.list (on_run-more old.list (record { event = Start judged start.reading; kept = kept.Launch what }))
+pub start_on : (job : JobId) (slot : SlotId) (judged : Judgement) (reading : ℕ) (what : Launch) (old new : List Step) → new ≡ old ++ start_step job slot judged reading what ∷ [] → on_run new ≡ Some what
+start_on job slot judged reading what old new is = rw is (on_run-more old (start_step job slot judged reading what))
 
-pub start_launched : (allows : ℕ → Type 0) (tells : Bool) (launches : List Launch) (judged : MemoryMatch) (what : Launch) (old new : CourseValue) → Happens allows (Start judged) (kept.Launch what) old new → IsBetween tells launches old.list → tells ≡ true → launches ≡ launches_of (started_runs new.list)
-start_launched allows tells launches judged what old new start between told = rw start.list (between.launched told ∙ ap launches_of (sym (quiet_runs old.list (record { event = Start judged start.reading; kept = kept.Launch what }) (record { runs = refl; ends = refl }))))
+pub start_launched : (tells : Bool) (launches : List Launch) (job : JobId) (slot : SlotId) (judged : Judgement) (reading : ℕ) (what : Launch) (old new : List Step) → new ≡ old ++ start_step job slot judged reading what ∷ [] → IsBetween tells launches old → tells ≡ true → launches ≡ launches_of (started_runs new)
+start_launched tells launches job slot judged reading what old new is between told = rw is (between.launched told ∙ ap launches_of (sym (quiet_runs old (start_step job slot judged reading what) (record { runs = refl; ends = refl }))))
 
-pub start_follows : (allows : ℕ → Type 0) (tells : Bool) (launches : List Launch) (seen : ℕ → ChildState) (killed : ℕ → Bool) (before now : ℕ) (judged : MemoryMatch) (what : Launch) (old new : CourseValue) → Happens allows (Start judged) (kept.Launch what) old new → IsBetween tells launches old.list → Follows allows tells launches seen killed before now old.list → Follows allows tells launches seen killed before now new.list
-start_follows allows tells launches seen killed before now judged what old new start between follows = rw start.list (follows_start allows tells launches seen killed before now old.list (record { event = Start judged start.reading; kept = kept.Launch what }) (record { runs = refl; ends = refl }) between start.allowed start.in_range follows)
+pub start_follows : (allows : ℕ → Type 0) (tells : Bool) (launches : List Launch) (seen : ℕ → ChildState) (killed : ℕ → Bool) (before now : ℕ) (job : JobId) (slot : SlotId) (judged : Judgement) (reading : ℕ) (what : Launch) (old new : List Step) → new ≡ old ++ start_step job slot judged reading what ∷ [] → allows reading → reading ≤ 253402207200 → IsBetween tells launches old → Follows allows tells launches seen killed before now old → Follows allows tells launches seen killed before now new
+start_follows allows tells launches seen killed before now job slot judged reading what old new is allowed in_range between follows = rw is (follows_start allows tells launches seen killed before now old (start_step job slot judged reading what) (record { runs = refl; ends = refl }) between allowed in_range follows)
 
-pub start_submits : (allows : ℕ → Type 0) (judged : MemoryMatch) (what : Launch) (old new : CourseValue) → Happens allows (Start judged) (kept.Launch what) old new → submits new.list ≡ submits old.list
-start_submits allows judged what old new start = rw start.list (no_submit old.list (record { event = Start judged start.reading; kept = kept.Launch what }) refl)
+pub start_submits : (job : JobId) (slot : SlotId) (judged : Judgement) (reading : ℕ) (what : Launch) (old new : List Step) → new ≡ old ++ start_step job slot judged reading what ∷ [] → submits new ≡ submits old
+start_submits job slot judged reading what old new is = rw is (no_submit old (start_step job slot judged reading what) refl)
 
-pub end_submits : (list new : List Step) (end : End) (reading : ℕ) → new ≡ list ++ record { event = Ended end reading; kept = kept.Done } ∷ [] → submits new ≡ submits list
-end_submits list new end reading is = rw is (no_submit list (record { event = Ended end reading; kept = kept.Done }) refl)
+pub end_submits : (job : JobId) (end : End) (reading : ℕ) (old new : List Step) → new ≡ old ++ end_step job end reading ∷ [] → submits new ≡ submits old
+end_submits job end reading old new is = rw is (no_submit old (end_step job end reading) refl)
 
 no_launches : (launches : List Launch) → length launches ≡ 0 → launches ≡ []
 no_launches [] none = refl
@@ -200,20 +217,31 @@ follows_none allows tells launches seen killed now list idle spared none = rw no
 pub between_none : (tells : Bool) (launches : List Launch) (list : List Step) → (tells ≡ true → length launches ≡ 0) → list ≡ [] → IsBetween tells launches list
 between_none tells launches list idle none = rw none (record { none_on = refl; launched = λ told. no_launches launches (idle told) })
 
-pub submit_follows : (allows : ℕ → Type 0) (tells : Bool) (launches : List Launch) (seen : ℕ → ChildState) (killed : ℕ → Bool) (before now : ℕ) (program : List ℕ) (memory : ℕ) (old new : CourseValue) → Happens allows (Submit program memory) kept.Done old new → Follows allows tells launches seen killed before now old.list → Follows allows tells launches seen killed before now new.list
-submit_follows allows tells launches seen killed before now program memory old new step follows = rw step.list (follows_quiet allows tells launches seen killed before now old.list (record { event = Submit program memory step.reading; kept = kept.Done }) (record { runs = refl; ends = refl }) refl step.allowed step.in_range follows)
+pub submit_follows : (allows : ℕ → Type 0) (tells : Bool) (launches : List Launch) (seen : ℕ → ChildState) (killed : ℕ → Bool) (before now : ℕ) (ads : ℕ → List Attributes) (old new : CourseValue) → HappensOnce allows (λ t. Submit (ads t) t) kept.Done old new → Follows allows tells launches seen killed before now old.list → Follows allows tells launches seen killed before now new.list
+submit_follows allows tells launches seen killed before now ads old new step follows = rw step.1.list (follows_quiet allows tells launches seen killed before now old.list (submit_step (ads step.0) step.0) (record { runs = refl; ends = refl }) refl step.1.allowed step.1.in_range follows)
 
-pub submit_between : (allows : ℕ → Type 0) (tells : Bool) (launches : List Launch) (program : List ℕ) (memory : ℕ) (old new : CourseValue) → Happens allows (Submit program memory) kept.Done old new → IsBetween tells launches old.list → IsBetween tells launches new.list
-submit_between allows tells launches program memory old new step between = rw step.list (between_quiet tells launches old.list (record { event = Submit program memory step.reading; kept = kept.Done }) (record { runs = refl; ends = refl }) refl between)
+pub submit_between : (allows : ℕ → Type 0) (tells : Bool) (launches : List Launch) (ads : ℕ → List Attributes) (old new : CourseValue) → HappensOnce allows (λ t. Submit (ads t) t) kept.Done old new → IsBetween tells launches old.list → IsBetween tells launches new.list
+submit_between allows tells launches ads old new step between = rw step.1.list (between_quiet tells launches old.list (submit_step (ads step.0) step.0) (record { runs = refl; ends = refl }) refl between)
 
-pub submit_submits : (allows : ℕ → Type 0) (program : List ℕ) (memory : ℕ) (old new : CourseValue) → Happens allows (Submit program memory) kept.Done old new → old.list ≡ [] → submits new.list ≡ (program, memory) ∷ []
-submit_submits allows program memory old new step none = rw (step.list, none) refl
+pub submit_submits : (allows : ℕ → Type 0) (program : List ℕ) (memory : ℕ) (old new : CourseValue) → HappensOnce allows (λ t. Submit (job_ad program memory t ∷ []) t) kept.Done old new → old.list ≡ [] → IsSubmitted program memory new.list
+submit_submits allows program memory old new step none = (step.0, rw (step.1.list, none) refl)
 
-pub close_follows : (allows : ℕ → Type 0) (tells : Bool) (launches : List Launch) (seen : ℕ → ChildState) (killed : ℕ → Bool) (before now : ℕ) (old new : CourseValue) → Happens allows Close kept.Done old new → Follows allows tells launches seen killed before now old.list → Follows allows tells launches seen killed before now new.list
-close_follows allows tells launches seen killed before now old new step follows = rw step.list (follows_quiet allows tells launches seen killed before now old.list (record { event = Close step.reading; kept = kept.Done }) (record { runs = refl; ends = refl }) refl step.allowed step.in_range follows)
+-- what was submitted stays
+pub still_submitted : (program : List ℕ) (memory : ℕ) (old new : List Step) → submits new ≡ submits old → IsSubmitted program memory old → IsSubmitted program memory new
+still_submitted program memory old new same is = (is.0, same ∙ is.1)
 
-pub close_between : (allows : ℕ → Type 0) (tells : Bool) (launches : List Launch) (old new : CourseValue) → Happens allows Close kept.Done old new → IsBetween tells launches old.list → IsBetween tells launches new.list
-close_between allows tells launches old new step between = rw step.list (between_quiet tells launches old.list (record { event = Close step.reading; kept = kept.Done }) (record { runs = refl; ends = refl }) refl between)
+pub close_follows : (allows : ℕ → Type 0) (tells : Bool) (launches : List Launch) (seen : ℕ → ChildState) (killed : ℕ → Bool) (before now : ℕ) (reading : ℕ) (none : Mismatch) (old new : List Step) → new ≡ old ++ close_step reading none ∷ [] → allows reading → reading ≤ 253402207200 → Follows allows tells launches seen killed before now old → Follows allows tells launches seen killed before now new
+close_follows allows tells launches seen killed before now reading none old new is allowed in_range follows = rw is (follows_quiet allows tells launches seen killed before now old (close_step reading none) (record { runs = refl; ends = refl }) refl allowed in_range follows)
 
-pub close_submits : (allows : ℕ → Type 0) (old new : CourseValue) → Happens allows Close kept.Done old new → submits new.list ≡ submits old.list
-close_submits allows old new step = rw step.list (no_submit old.list (record { event = Close step.reading; kept = kept.Done }) refl)
+pub close_between : (tells : Bool) (launches : List Launch) (reading : ℕ) (none : Mismatch) (old new : List Step) → new ≡ old ++ close_step reading none ∷ [] → IsBetween tells launches old → IsBetween tells launches new
+close_between tells launches reading none old new is between = rw is (between_quiet tells launches old (close_step reading none) (record { runs = refl; ends = refl }) refl between)
+
+pub close_submits : (reading : ℕ) (none : Mismatch) (old new : List Step) → new ≡ old ++ close_step reading none ∷ [] → submits new ≡ submits old
+close_submits reading none old new is = rw is (no_submit old (close_step reading none) refl)
+
+-- a spawner that tells as much as before
+pub follows_told : (allows : ℕ → Type 0) (tells told : Bool) (launches : List Launch) (seen : ℕ → ChildState) (killed : ℕ → Bool) (before now : ℕ) (list : List Step) → told ≡ tells → Follows allows told launches seen killed before now list → Follows allows tells launches seen killed before now list
+follows_told allows tells told launches seen killed before now list same follows = subst (λ t. Follows allows t launches seen killed before now list) same follows
+
+pub between_told : (tells told : Bool) (launches : List Launch) (list : List Step) → told ≡ tells → IsBetween told launches list → IsBetween tells launches list
+between_told tells told launches list same between = subst (λ t. IsBetween t launches list) same between

@@ -6,7 +6,7 @@ use Rattle.pool_outer.specs.declared.spawner.Launch.{Launch}
 use Rattle.pool_outer.specs.Cause.{Rose}
 use Rattle.pool_core.specs.declared.history.History.{History}
 use Rattle.pool_core.specs.declared.history.Step.{Step}
-use Rattle.pool_core.specs.declared.pool.Pool.{Pool}
+use Rattle.pool_core.specs.PoolValue.{PoolValue}
 use Rattle.pool_core.specs.Histories.{LeadsTo, IsHistory, Shows, submits, ends_in_close}
 use Rattle.pool_core.specs.Moving.{EachMoves}
 use Rattle.pool_core.specs.Reactions.{opening_pool, after}
@@ -17,7 +17,8 @@ use Rattle.pool_master.specs.Input.{IsEarly, IsInputOf, IsRefusedOf, IsRefusedIn
 use Rattle.pool_master.specs.Words.{IsRun}
 use Rattle.pool_master.specs.Follows.{Follows, IsBetween}
 use Rattle.pool_master.specs.UserLog.{IsUserLog}
-use Rattle.pool_master.specs.Run.{pool_after, job_left, ClosesFrom, IsClosed, IsReplay, OfJobFrom, OfFilesFrom, OfInputFrom, WritesPart, WritesAll, PoolRuns, HasNothing, IsLate, IsPrinted}
+use Rattle.pool_master.specs.Made.{machine_slot}
+use Rattle.pool_master.specs.Run.{pool_after, IsSubmitted, job_left, ClosesFrom, IsClosed, IsReplay, OfJobFrom, OfFilesFrom, OfInputFrom, WritesPart, WritesAll, PoolRuns, HasNothing, IsLate, IsPrinted}
 use Rattle.pool_master.proofs.Playing.{follows_none}
 use Rattle.pool_master.proofs.UserLogs.{same_log}
 
@@ -43,7 +44,7 @@ no_out_fault : {A : Type 0} (s : Status) → IsNoEnd s → s ≡ status.OutFault
 no_out_fault s early is = absurd (subst IsNoEnd is early)
 
 not_closed : {A : Type 0} (h : History) (left : Bool) → h.opening ≡ None → IsClosed h left → A
-not_closed h left none closed = absurd (subst (λ (o : Option Pool). ClosesFrom o h.list left) none closed)
+not_closed h left none closed = absurd (subst (λ (o : Option PoolValue). ClosesFrom o h.list left) none closed)
 
 -- no pool was opened
 pub nothing_runs : (allows : ℕ → Type 0) (tells : Bool) (launches : List Launch) (seen : ℕ → ChildState) (killed : ℕ → Bool) (faults : ℕ) (writes : Bool) (old : List ℕ) (out : ℕ) (s : Status) (h : History) → HasNothing h → h.load ≡ false → IsNoEnd s → (tells ≡ true → length launches ≡ 0) → (tells ≡ true → (k : ℕ) → killed k ≡ false) → PoolRuns allows tells launches seen killed faults faults writes old old out out s h
@@ -62,49 +63,49 @@ nothing_runs allows tells launches seen killed faults writes old out s h nothing
 }
 
 -- a history leads to one pool
-pub leads_after : (p : Pool) (list : List Step) (q : Pool) → LeadsTo p list q → q ≡ pool_after p list
+pub leads_after : (p : PoolValue) (list : List Step) (q : PoolValue) → LeadsTo p list q → q ≡ pool_after p list
 leads_after p [] q leads = leads
 leads_after p (s ∷ ss) q leads = leads_after (after p s.event) ss q leads.1
 
 -- what is known of a history and the pool that it leads to
-pub record IsPlayed (h : History) (p : Pool) : Type 0 where
-  pub opening : Pool
+pub record IsPlayed (h : History) (p : PoolValue) : Type 0 where
+  pub opening : PoolValue
   pub opening_is : h.opening ≡ Some opening
-  pub opened : opening ≡ opening_pool opening.name opening.memory
+  pub opened : opening ≡ opening_pool opening.slots
   pub no_load : h.load ≡ false
   pub leads : LeadsTo opening h.list p
   pub moves : EachMoves opening h.list
   pub closed : p.closed ≡ ends_in_close h.list
 
-pub played : (o : Pool) (list : List Step) (h : History) (p : Pool) → o ≡ opening_pool o.name o.memory → h.list ≡ list → IsHistory o.name o.memory h p → EachMoves o list → Shows o.name o.memory list p → IsPlayed h p
+pub played : (o : PoolValue) (list : List Step) (h : History) (p : PoolValue) → o ≡ opening_pool o.slots → h.list ≡ list → IsHistory o.slots h p → EachMoves o list → Shows o.slots list p → IsPlayed h p
 played o list h p opened same is moves shows = record {
   opening = o;
   opening_is = is.opening ∙ ap Some (sym opened);
   opened = opened;
   no_load = is.no_load;
-  leads = subst (λ (q : Pool). LeadsTo q h.list p) (sym opened) is.leads;
+  leads = subst (λ (q : PoolValue). LeadsTo q h.list p) (sym opened) is.leads;
   moves = subst (λ (l : List Step). EachMoves o l) (sym same) moves;
   closed = shows.closed ∙ ap ends_in_close (sym same);
 }
 
 -- its job is the one that was asked for
-pub played_job : (name : List ℕ) (memory : ℕ) (program : List ℕ) (request : ℕ) (o : Pool) (h : History) (p : Pool) → h.opening ≡ Some (opening_pool o.name o.memory) → o.name ≡ name → o.memory ≡ memory → p.closed ≡ ends_in_close h.list → (submits h.list ≡ []) ⊎ (submits h.list ≡ (program, request) ∷ []) → (p.closed ≡ true → submits h.list ≡ (program, request) ∷ []) → OfJobFrom name memory program request h.opening h.list
-played_job name memory program request o h p opening name_is memory_is ends partly closed = rw opening (record { name_is = name_is; memory_is = memory_is; submitted = record { partly = partly; closed = λ end. closed (ends ∙ end) } })
+pub played_job : (name : List ℕ) (memory : ℕ) (program : List ℕ) (request : ℕ) (o : PoolValue) (h : History) (p : PoolValue) → h.opening ≡ Some (opening_pool o.slots) → o ≡ opening_pool o.slots → o ≡ opening_pool (machine_slot name memory ∷ []) → p.closed ≡ ends_in_close h.list → (submits h.list ≡ []) ⊎ IsSubmitted program request h.list → (p.closed ≡ true → IsSubmitted program request h.list) → OfJobFrom name memory program request h.opening h.list
+played_job name memory program request o h p opening opened is ends partly closed = rw opening (record { opening_is = sym opened ∙ is; submitted = record { partly = partly; closed = λ end. closed (ends ∙ end) } })
 
-pub played_replay : (h : History) (p : Pool) → IsPlayed h p → IsReplay h
+pub played_replay : (h : History) (p : PoolValue) → IsPlayed h p → IsReplay h
 played_replay h p is = record {
-  replays = rw is.opening_is (is.opened, subst (λ (q : Pool). LeadsTo is.opening h.list q) (leads_after is.opening h.list p is.leads) is.leads);
+  replays = rw is.opening_is (is.opened, subst (λ (q : PoolValue). LeadsTo is.opening h.list q) (leads_after is.opening h.list p is.leads) is.leads);
   no_load = is.no_load;
 }
 
 -- a history is closed where its pool is, with that pool's job left or not
-pub closes : (h : History) (p : Pool) → IsPlayed h p → p.closed ≡ true → IsClosed h (job_left p.job)
-closes h p is closed = rw is.opening_is (sym is.closed ∙ closed, ap (λ (q : Pool). job_left q.job) (sym (leads_after is.opening h.list p is.leads)))
+pub closes : (h : History) (p : PoolValue) → IsPlayed h p → p.closed ≡ true → IsClosed h (job_left p)
+closes h p is closed = rw is.opening_is (sym is.closed ∙ closed, ap job_left (sym (leads_after is.opening h.list p is.leads)))
 
-pub closed_so : (h : History) (p : Pool) (left : Bool) → IsPlayed h p → IsClosed h left → (p.closed ≡ true) × (job_left p.job ≡ left)
+pub closed_so : (h : History) (p : PoolValue) (left : Bool) → IsPlayed h p → IsClosed h left → (p.closed ≡ true) × (job_left p ≡ left)
 closed_so h p left is closed =
-    let c = subst (λ (o : Option Pool). ClosesFrom o h.list left) is.opening_is closed in
-    (is.closed ∙ c.0, ap (λ (q : Pool). job_left q.job) (leads_after is.opening h.list p is.leads) ∙ c.1)
+    let c = subst (λ (o : Option PoolValue). ClosesFrom o h.list left) is.opening_is closed in
+    (is.closed ∙ c.0, ap job_left (leads_after is.opening h.list p is.leads) ∙ c.1)
 
 -- How the run ended, by what was printed.
 
@@ -149,26 +150,26 @@ no_disk_fault s left before now printed (inr (inl is)) = inr is
 no_disk_fault s left before now printed (inr (inr is)) = absurd (subst (IsPrinted left before now) is printed)
 
 -- the pool was closed, and its log was printed or not
-pub printed_runs : (allows : ℕ → Type 0) (tells : Bool) (launches : List Launch) (seen : ℕ → ChildState) (killed : ℕ → Bool) (spawn_before spawn_now : ℕ) (writes : Bool) (old new : List ℕ) (before now : ℕ) (s : Status) (h : History) (p : Pool) → IsPlayed h p → p.closed ≡ true → Follows allows tells launches seen killed spawn_before spawn_now h.list → IsBetween tells launches h.list → (writes ≡ true → WritesPart h old new) → (writes ≡ true → (s ≡ status.Done) ⊎ (s ≡ status.Stuck) → WritesAll h old new) → IsPrinted (job_left p.job) before now s → PoolRuns allows tells launches seen killed spawn_before spawn_now writes old new before now s h
+pub printed_runs : (allows : ℕ → Type 0) (tells : Bool) (launches : List Launch) (seen : ℕ → ChildState) (killed : ℕ → Bool) (spawn_before spawn_now : ℕ) (writes : Bool) (old new : List ℕ) (before now : ℕ) (s : Status) (h : History) (p : PoolValue) → IsPlayed h p → p.closed ≡ true → Follows allows tells launches seen killed spawn_before spawn_now h.list → IsBetween tells launches h.list → (writes ≡ true → WritesPart h old new) → (writes ≡ true → (s ≡ status.Done) ⊎ (s ≡ status.Stuck) → WritesAll h old new) → IsPrinted (job_left p) before now s → PoolRuns allows tells launches seen killed spawn_before spawn_now writes old new before now s h
 printed_runs allows tells launches seen killed spawn_before spawn_now writes old new before now s h p is closed follows between part whole printed = record {
   replay = played_replay h p is;
   safe = rw is.opening_is is.moves;
   follows = follows;
   all_launched = λ told left c. between.launched told;
   written = part;
-  all_written = λ told ends. whole told (no_disk_fault s (job_left p.job) before now printed ends);
-  done = λ e. done_of s (job_left p.job) before now h printed (closes h p is closed) e;
-  done_comes = λ c quiet. done_comes_of s (job_left p.job) before now printed (closed_so h p false is c).1 quiet;
-  stuck = λ e. stuck_of s (job_left p.job) before now h printed (closes h p is closed) e;
-  stuck_comes = λ c quiet. stuck_comes_of s (job_left p.job) before now printed (closed_so h p true is c).1 quiet;
-  out_fault = λ e. (out_fault_of s (job_left p.job) before now printed e, (job_left p.job, closes h p is closed));
+  all_written = λ told ends. whole told (no_disk_fault s (job_left p) before now printed ends);
+  done = λ e. done_of s (job_left p) before now h printed (closes h p is closed) e;
+  done_comes = λ c quiet. done_comes_of s (job_left p) before now printed (closed_so h p false is c).1 quiet;
+  stuck = λ e. stuck_of s (job_left p) before now h printed (closes h p is closed) e;
+  stuck_comes = λ c quiet. stuck_comes_of s (job_left p) before now printed (closed_so h p true is c).1 quiet;
+  out_fault = λ e. (out_fault_of s (job_left p) before now printed e, (job_left p, closes h p is closed));
 }
 
-open_pool_clash : {A : Type 0} (h : History) (p : Pool) (left : Bool) → IsPlayed h p → p.closed ≢ true → IsClosed h left → A
+open_pool_clash : {A : Type 0} (h : History) (p : PoolValue) (left : Bool) → IsPlayed h p → p.closed ≢ true → IsClosed h left → A
 open_pool_clash h p left is open_ closed = absurd (open_ (closed_so h p left is closed).0)
 
 -- want of memory before the pool was closed
-pub open_runs : (allows : ℕ → Type 0) (tells : Bool) (launches : List Launch) (seen : ℕ → ChildState) (killed : ℕ → Bool) (spawn_before spawn_now : ℕ) (writes : Bool) (old : List ℕ) (out : ℕ) (h : History) (p : Pool) → IsPlayed h p → p.closed ≢ true → Follows allows tells launches seen killed spawn_before spawn_now h.list → PoolRuns allows tells launches seen killed spawn_before spawn_now writes old old out out status.Memory h
+pub open_runs : (allows : ℕ → Type 0) (tells : Bool) (launches : List Launch) (seen : ℕ → ChildState) (killed : ℕ → Bool) (spawn_before spawn_now : ℕ) (writes : Bool) (old : List ℕ) (out : ℕ) (h : History) (p : PoolValue) → IsPlayed h p → p.closed ≢ true → Follows allows tells launches seen killed spawn_before spawn_now h.list → PoolRuns allows tells launches seen killed spawn_before spawn_now writes old old out out status.Memory h
 open_runs allows tells launches seen killed spawn_before spawn_now writes old out h p is open_ follows = record {
   replay = played_replay h p is;
   safe = rw is.opening_is is.moves;
@@ -219,17 +220,19 @@ early_no_end (status.BadLog line) early = tt
 early_no_end (status.Limit which) early = tt
 
 -- the machine and the job are those of the files
-pub job_of_files : (file : List ℕ → Option (List ℕ)) (config submit name : List ℕ) (memory : ℕ) (program : List ℕ) (request : ℕ) (opening : Option Pool) (list : List Step) → IsInputOf file config submit name memory program request → OfJobFrom name memory program request opening list → OfFilesFrom file config submit opening list
+pub job_of_files : (file : List ℕ → Option (List ℕ)) (config submit name : List ℕ) (memory : ℕ) (program : List ℕ) (request : ℕ) (opening : Option PoolValue) (list : List Step) → IsInputOf file config submit name memory program request → OfJobFrom name memory program request opening list → OfFilesFrom file config submit opening list
 job_of_files file config submit name memory program request None list input job = tt
 job_of_files file config submit name memory program request (Some p) list input job = record {
+  name = name;
+  memory = memory;
   program = program;
   request = request;
-  input = rw (job.name_is, job.memory_is) input;
-  submitted = job.submitted;
+  input = input;
+  of_job = job;
 }
 
 -- and the files are those that the words name
-pub files_of_input : (file : List ℕ → Option (List ℕ)) (words : List (List ℕ)) (config submit : List ℕ) (opening : Option Pool) (list : List Step) → IsRun words config submit → OfFilesFrom file config submit opening list → OfInputFrom file words opening list
+pub files_of_input : (file : List ℕ → Option (List ℕ)) (words : List (List ℕ)) (config submit : List ℕ) (opening : Option PoolValue) (list : List Step) → IsRun words config submit → OfFilesFrom file config submit opening list → OfInputFrom file words opening list
 files_of_input file words config submit None list is files = tt
 files_of_input file words config submit (Some p) list is files = record { config = config; submit = submit; words_are = is; files = files }
 

@@ -1,68 +1,215 @@
--- What a pool accepts, once it has accepted a start.
-use Rattle.std.proofs.Common.{◌≡◌, ℕ, Bool, true, false, Option, Some, None, eq-eqb, List, ◌<◌, ◌==◌, ◌&&◌, refl, if◌then◌else◌}
-use Rattle.std.proofs.lemmas.Bool.{lt-ltb}
+-- What a pool in which no run is on accepts, and what becomes of it.
+use Rattle.std.proofs.Common.{◌≡◌, ◌∙◌, ℕ, zero, suc, ◌+◌, ◌<◌, ◌≤◌, Bool, true, false, not, ◌||◌, Option, Some, None, is_some, List, [], ◌∷◌, length, slice_get, refl, sym, ap, arith, eq-eqb, if◌then◌else◌}
+use Rattle.std.specs.Prelude.{option_map}
+use Rattle.std.specs.List.{cons_option}
+use Rattle.ad_tree.specs.Ad.{Attributes}
+use Rattle.ad_eval.specs.Judgement.{Judgement, Mismatch}
+use Rattle.ad_eval.specs.Match.{matches, IsFirstMatch}
 use Rattle.pool_core.specs.declared.answer.StepError.{StepError}
-use Rattle.pool_core.specs.declared.answer.StepError.TheVariants.{Closed, Occupied, AdMoved}
+use Rattle.pool_core.specs.declared.answer.StepError.TheVariants.{Occupied, AdMoved}
 use Rattle.pool_core.specs.declared.event.End.{End}
 use Rattle.pool_core.specs.declared.event.End.TheVariants.{Exited, Signalled, NotStarted}
 use Rattle.pool_core.specs.declared.event.Event.TheVariants.{Submit, Start, Ended, Close}
-use Rattle.pool_core.specs.declared.memory_match.MemoryMatch.{MemoryMatch}
-use Rattle.pool_core.specs.declared.pool.Job.{Job}
-use Rattle.pool_core.specs.declared.pool.Pool.{Pool}
-use Rattle.pool_core.specs.Reactions.{opening_pool, refusal, open_refusal, after, has_idle, is_judged}
-use Rattle.pool_master.specs.Follows.{IsIdle}
+use Rattle.pool_core.specs.declared.job.Job.{Job}
+use Rattle.pool_core.specs.declared.job.Phase.{Phase}
+use Rattle.pool_core.specs.declared.job.Phase.TheVariants.{Running}
+use Rattle.pool_core.specs.declared.job.RunName.{RunName}
+use Rattle.pool_core.specs.declared.numbers.JobId.{JobId}
+use Rattle.pool_core.specs.declared.numbers.SlotId.{SlotId}
+use Rattle.pool_core.specs.declared.slot.SlotAd.{SlotAd}
+use Rattle.pool_core.specs.Numbers.{same_job, same_slot}
+use Rattle.pool_core.specs.PoolValue.{PoolValue, HasKeysOnce, job_at, slot_at, run_at, is_idle}
+use Rattle.pool_core.specs.Reactions.{opening_pool, refusal, after, is_idle_job, is_judged, idle_ads, slot_ads, run_of_job, run_named, phase_after, with_phase}
+use Rattle.pool_core.specs.Reading.{idle_jobs}
+use Rattle.pool_core.proofs.Same.{same_ad-same, same_ads-same}
+use Rattle.pool_core.proofs.Steps.{same_job-true, same_job-same}
+use Rattle.pool_core.proofs.Tables.{same_slot-true, same_slot-same, job_at-own, once_with_phase, in_phase}
+use Rattle.pool_master.specs.Follows.{IsResting, AreNumberedOnce, idle_count}
 
-open_pool : (closed : Bool) (other : Option StepError) → (if closed then Some Closed else other) ≡ None → (closed ≡ false) × (other ≡ None)
-open_pool true other ok = cc
-open_pool false other ok = (refl, ok)
+-- ---- which job and which slot stand at a place
 
-some_job : (job : Option Job) (memory : ℕ) (judged : MemoryMatch) → (if has_idle job then (if is_judged job memory judged then None else Some AdMoved) else Some Occupied) ≡ None → (j : Job) × (job ≡ Some j)
-some_job None memory judged ok = cc
-some_job (Some j) memory judged ok = (j, refl)
+some_same : {A : Type 0} (x y : A) → Some x ≡ Some y → x ≡ y
+some_same x y e = cc
 
--- what a pool that accepts a start is like
-pub record IsReady (p : Pool) : Type 0 where
-  pub open_ : p.closed ≡ false
+none_is_some : {A B : Type 0} (x : A) → None ≡ Some x → B
+none_is_some x e = cc
+
+-- what stands among the ads of the idle jobs stands among these jobs
+pub ads_of_jobs : (jobs : List (JobId × Job)) (k : ℕ) → slice_get (idle_ads jobs) k ≡ option_map (λ e. e.1) (slice_get (idle_jobs jobs) k)
+ads_of_jobs [] k = refl
+ads_of_jobs (e ∷ es) k = by (is_idle e.1.phase) k (ads_of_jobs es)
+  where
+    by : (t : Bool) (n : ℕ) → ((m : ℕ) → slice_get (idle_ads es) m ≡ option_map (λ (x : JobId × Attributes). x.1) (slice_get (idle_jobs es) m))
+        → slice_get (cons_option (if t then Some e.1.ad else None) (idle_ads es)) n ≡ option_map (λ (x : JobId × Attributes). x.1) (slice_get (cons_option (if t then Some (e.0, e.1.ad) else None) (idle_jobs es)) n)
+    by true zero rest = refl
+    by true (suc n) rest = rest n
+    by false n rest = rest n
+
+-- the job of that number is idle, and has that ad
+pub record StandsIdle (jobs : List (JobId × Job)) (id : JobId) (ad : Attributes) : Type 0 where
   pub job : Job
-  pub job_is : p.job ≡ Some job
+  pub there : job_at id jobs ≡ Some job
+  pub idle : is_idle job.phase ≡ true
+  pub ad_is : job.ad ≡ ad
 
-pub ready : (p : Pool) (judged : MemoryMatch) (reading : ℕ) → refusal p (Start judged reading) ≡ None → IsReady p
-ready p judged reading ok =
-    let is = open_pool p.closed (open_refusal p (Start judged reading)) ok in
-    let j = some_job p.job p.memory judged is.1 in
-    record { open_ = is.0; job = j.0; job_is = j.1 }
+first_stands : (e : JobId × Job) (es : List (JobId × Job)) (id : JobId) (ad : Attributes) → is_idle e.1.phase ≡ true → ◌≡◌ {A = JobId × Attributes} (e.0, e.1.ad) (id, ad) → StandsIdle (e ∷ es) id ad
+first_stands e es id ad idle same = record {
+  job = e.1;
+  there = ap (λ c. if c then Some e.1 else job_at id es) (ap (λ k. same_job k e.0) (sym (ap (λ (x : JobId × Attributes). x.0) same)) ∙ same_job-same e.0);
+  idle = idle;
+  ad_is = ap (λ (x : JobId × Attributes). x.1) same;
+}
 
-pub may_end : (p q : Pool) (judged : MemoryMatch) (reading : ℕ) → IsReady p → q ≡ after p (Start judged reading) → (end : End) (t : ℕ) → refusal q (Ended end t) ≡ None
-may_end p q judged reading is next end t = rw (next, is.open_, is.job_is) refl
+later_stands : (e : JobId × Job) (es : List (JobId × Job)) (id : JobId) (ad : Attributes) → job_at e.0 es ≡ None → StandsIdle es id ad → StandsIdle (e ∷ es) id ad
+later_stands e es id ad none is = record { job = is.job; there = by (same_job id e.0) refl; idle = is.idle; ad_is = is.ad_is }
+  where
+    by : (t : Bool) → same_job id e.0 ≡ t → (if t then Some e.1 else job_at id es) ≡ Some is.job
+    by true same = none_is_some is.job (sym none ∙ (ap (λ k. job_at k es) (sym (same_job-true id e.0 same)) ∙ is.there))
+    by false same = is.there
 
-pub still_open : (p q : Pool) (judged : MemoryMatch) (reading : ℕ) → IsReady p → q ≡ after p (Start judged reading) → q.closed ≡ false
-still_open p q judged reading is next = rw (next, is.open_) refl
+pub stands_idle : (jobs : List (JobId × Job)) (k : ℕ) (id : JobId) (ad : Attributes) → HasKeysOnce same_job jobs → slice_get (idle_jobs jobs) k ≡ Some (id, ad) → StandsIdle jobs id ad
+stands_idle [] k id ad once is = none_is_some (id, ad) is
+stands_idle (e ∷ es) k id ad once is = by (is_idle e.1.phase) refl k (λ n. stands_idle es n id ad once.1) is
+  where
+    by : (t : Bool) → is_idle e.1.phase ≡ t → (n : ℕ) → ((m : ℕ) → slice_get (idle_jobs es) m ≡ Some (id, ad) → StandsIdle es id ad)
+        → slice_get (cons_option (if t then Some (e.0, e.1.ad) else None) (idle_jobs es)) n ≡ Some (id, ad) → StandsIdle (e ∷ es) id ad
+    by true idle zero rest at = first_stands e es id ad idle (some_same (e.0, e.1.ad) (id, ad) at)
+    by true idle (suc n) rest at = later_stands e es id ad once.0 (rest n at)
+    by false idle n rest at = later_stands e es id ad once.0 (rest n at)
 
-may_close_after : (p : Pool) (judged : MemoryMatch) (reading : ℕ) (end : End) (late t : ℕ) → IsReady p → refusal (after (after p (Start judged reading)) (Ended end late)) (Close t) ≡ None
-may_close_after p judged reading (Exited code) late t is = rw (is.open_, is.job_is) refl
-may_close_after p judged reading (Signalled signal) late t is = rw (is.open_, is.job_is) refl
-may_close_after p judged reading NotStarted late t is = rw (is.open_, is.job_is) refl
+pub slot_stands : (slots : List SlotAd) (k : ℕ) (s : SlotAd) → AreNumberedOnce slots → slice_get slots k ≡ Some s → slot_at s.slot slots ≡ Some s
+slot_stands [] k s once is = none_is_some s is
+slot_stands (x ∷ xs) zero s once is =
+    let same : x ≡ s = some_same x s is in
+    ap (λ c. if c then Some x else slot_at s.slot xs) (ap (λ (y : SlotAd). same_slot s.slot y.slot) same ∙ same_slot-same s.slot) ∙ is
+slot_stands (x ∷ xs) (suc n) s once is = by (same_slot s.slot x.slot) refl (slot_stands xs n s once.1 is)
+  where
+    by : (t : Bool) → same_slot s.slot x.slot ≡ t → slot_at s.slot xs ≡ Some s → (if t then Some x else slot_at s.slot xs) ≡ Some s
+    by true same at = none_is_some s (sym once.0 ∙ (ap (λ k. slot_at k xs) (sym (same_slot-true s.slot x.slot same)) ∙ at))
+    by false same at = at
 
-pub may_close : (p q r : Pool) (judged : MemoryMatch) (reading : ℕ) (end : End) (late : ℕ) → IsReady p → q ≡ after p (Start judged reading) → r ≡ after q (Ended end late) → (t : ℕ) → refusal r (Close t) ≡ None
-may_close p q r judged reading end late is one two t = rw (two, one) (may_close_after p judged reading end late t is)
+-- what stands among the slots' ads stands among the slots
+ads_of_slots : (slots : List SlotAd) (k : ℕ) → slice_get (slot_ads slots) k ≡ option_map (λ s. s.ad) (slice_get slots k)
+ads_of_slots [] k = refl
+ads_of_slots (s ∷ ss) zero = refl
+ads_of_slots (s ∷ ss) (suc k) = ads_of_slots ss k
 
-pub open_at_end : (p q r : Pool) (judged : MemoryMatch) (reading : ℕ) (end : End) (late : ℕ) → IsReady p → q ≡ after p (Start judged reading) → r ≡ after q (Ended end late) → r.closed ≡ false
-open_at_end p q r judged reading end late is one two = rw (two, one, is.open_) refl
+-- ---- the first pair that matches
 
-pub submitted_idle : (name : List ℕ) (memory : ℕ) (p q : Pool) (program : List ℕ) (request reading : ℕ) → p ≡ opening_pool name memory → q ≡ after p (Submit program request reading) → IsIdle q request
-submitted_idle name memory p q program request reading first next = record { is_open = rw (next, first) refl; program = program; waits = rw next refl }
+pub some_job : (p : PoolValue) (now i k : ℕ) → IsFirstMatch (idle_ads p.jobs) (slot_ads p.slots) now i k → None ≡ slice_get (idle_jobs p.jobs) i → ⊥
+some_job p now i k first none = none_is_some first.job (sym (ads_of_jobs p.jobs i ∙ ap (option_map (λ (e : JobId × Attributes). e.1)) (sym none)) ∙ first.there)
 
-pub may_submit : (name : List ℕ) (memory : ℕ) (p : Pool) (program : List ℕ) (request reading : ℕ) → p ≡ opening_pool name memory → refusal p (Submit program request reading) ≡ None
-may_submit name memory p program request reading first = rw first refl
+pub some_slot : (p : PoolValue) (now i k : ℕ) → IsFirstMatch (idle_ads p.jobs) (slot_ads p.slots) now i k → slice_get p.slots k ≡ None → ⊥
+some_slot p now i k first none = none_is_some first.slot.slot (sym (ads_of_slots p.slots k ∙ ap (option_map (λ (s : SlotAd). s.ad)) none) ∙ first.slot.there)
 
-both : (a b m n : ℕ) → a ≡ m → b ≡ n → ((a == m) && (b == n)) ≡ true
-both a b m n p q = rw (eq-eqb a m p, eq-eqb b n q) refl
+pub pair_matches : (p : PoolValue) (now i k : ℕ) (id : JobId) (ad : Attributes) (s : SlotAd) → IsFirstMatch (idle_ads p.jobs) (slot_ads p.slots) now i k → slice_get (idle_jobs p.jobs) i ≡ Some (id, ad) → slice_get p.slots k ≡ Some s → matches ad s.ad now ≡ true
+pair_matches p now i k id ad s first job slot =
+    let one : first.job ≡ ad = some_same first.job ad (sym first.there ∙ (ads_of_jobs p.jobs i ∙ ap (option_map (λ (e : JobId × Attributes). e.1)) job)) in
+    let other : first.slot.slot ≡ s.ad = some_same first.slot.slot s.ad (sym first.slot.there ∙ (ads_of_slots p.slots k ∙ ap (option_map (λ (x : SlotAd). x.ad)) slot)) in
+    rw (← one, ← other) first.slot.match
 
-pub may_start : (p : Pool) (memory : ℕ) (judged : MemoryMatch) → IsIdle p memory → judged.request ≡ memory → judged.slot ≡ p.memory → (reading : ℕ) → refusal p (Start judged reading) ≡ None
-may_start p memory judged idle request slot reading = rw (idle.is_open, idle.waits, both judged.request judged.slot memory p.memory request slot) refl
+-- ---- what it accepts
 
-pub may_close_idle : (p : Pool) (memory : ℕ) → IsIdle p memory → p.memory < memory → (reading : ℕ) → refusal p (Close reading) ≡ None
-may_close_idle p memory idle large reading = rw (idle.is_open, idle.waits, lt-ltb p.memory memory large) refl
+pub may_start : (p : PoolValue) (i k : ℕ) (id : JobId) (ad : Attributes) (s : SlotAd) (judged : Judgement) (reading : ℕ) → IsResting p → slice_get (idle_jobs p.jobs) i ≡ Some (id, ad) → slice_get p.slots k ≡ Some s → judged.job ≡ ad → judged.slot ≡ s.ad → judged.at ≡ reading → refusal p (Start id s.slot judged reading) ≡ None
+may_start p i k id ad s judged reading rests job slot of_job of_slot at =
+    let is = stands_idle p.jobs i id ad rests.jobs_once job in
+    rw (rests.is_open, rests.no_runs, is.there, is.idle, slot_stands p.slots k s rests.slots_once slot, eq-eqb judged.at reading at, same_ad-same judged.job is.job.ad (of_job ∙ sym is.ad_is), same_ad-same judged.slot s.ad of_slot) refl
 
-pub closed_after : (p q : Pool) (reading : ℕ) → q ≡ after p (Close reading) → q.closed ≡ true
-closed_after p q reading next = rw next refl
+pub may_close : (p : PoolValue) (none : Mismatch) (reading : ℕ) → IsResting p → none.jobs ≡ idle_ads p.jobs → none.slots ≡ slot_ads p.slots → none.at ≡ reading → refusal p (Close reading none) ≡ None
+may_close p none reading rests jobs slots at =
+    rw (rests.is_open, eq-eqb none.at reading at, same_ads-same none.jobs (idle_ads p.jobs) jobs, same_ads-same none.slots (slot_ads p.slots) slots, rests.no_runs) refl
+
+accepts_idle : (busy idle is : Bool) (a b : StepError) → (if busy || not idle then Some a else (if is then None else Some b)) ≡ None → idle ≡ true
+accepts_idle busy true is a b ok = refl
+accepts_idle true false is a b ok = none_is_some a (sym ok)
+accepts_idle false false is a b ok = none_is_some a (sym ok)
+
+some_idle : (o : Option Job) → is_idle_job o ≡ true → (j : Job) × (o ≡ Some j) × (is_idle j.phase ≡ true)
+some_idle None is = cc
+some_idle (Some j) is = (j, refl, is)
+
+-- the job that starts is idle
+starting : (p : PoolValue) (job : JobId) (slot : SlotId) (judged : Judgement) (reading : ℕ) → IsResting p → refusal p (Start job slot judged reading) ≡ None → (j : Job) × (job_at job p.jobs ≡ Some j) × (is_idle j.phase ≡ true)
+starting p job slot judged reading rests ok =
+    some_idle (job_at job p.jobs) (accepts_idle (is_some (run_at slot p.runs)) (is_idle_job (job_at job p.jobs)) (is_judged (job_at job p.jobs) (slot_at slot p.slots) reading judged) (Occupied slot job) (AdMoved slot) (rw rests.is_open at ok))
+
+-- ---- what becomes of it
+
+-- the job runs once it was started
+running : (p : PoolValue) (job : JobId) (slot : SlotId) (judged : Judgement) (reading : ℕ) → IsResting p → refusal p (Start job slot judged reading) ≡ None → run_of_job (job_at job (after p (Start job slot judged reading)).jobs) ≡ Some (run_named slot (p.started + 1))
+running p job slot judged reading rests ok =
+    let j = starting p job slot judged reading rests ok in
+    ap run_of_job (job_at-own job (Running (run_named slot (p.started + 1)) reading) p.jobs ∙ ap (option_map (in_phase (Running (run_named slot (p.started + 1)) reading))) j.1)
+
+pub still_open : (p q : PoolValue) (job : JobId) (slot : SlotId) (judged : Judgement) (reading : ℕ) → IsResting p → q ≡ after p (Start job slot judged reading) → q.closed ≡ false
+still_open p q job slot judged reading rests next = rw next rests.is_open
+
+pub may_end : (p q : PoolValue) (job : JobId) (slot : SlotId) (judged : Judgement) (reading : ℕ) → IsResting p → refusal p (Start job slot judged reading) ≡ None → q ≡ after p (Start job slot judged reading) → (end : End) (t : ℕ) → refusal q (Ended job end t) ≡ None
+may_end p q job slot judged reading rests ok next end t = rw (next, rests.is_open, running p job slot judged reading rests ok) refl
+
+not_idle : (run : RunName) (end : End) → is_idle (phase_after run end) ≡ false
+not_idle run (Exited code) = refl
+not_idle run (Signalled signal) = refl
+not_idle run NotStarted = refl
+
+no_more_idle : (job : JobId) (ph : Phase) (jobs : List (JobId × Job)) → is_idle ph ≡ false → length (idle_ads (with_phase job ph jobs)) ≤ length (idle_ads jobs)
+no_more_idle job ph [] busy = omega arith
+no_more_idle job ph (e ∷ es) busy = by (same_job job e.0) (no_more_idle job ph es busy)
+  where
+    taken : (s : Bool) → length (idle_ads es) ≤ length (cons_option (if s then Some e.1.ad else None) (idle_ads es))
+    taken true = omega arith
+    taken false = omega arith
+
+    more : (s : Bool) → length (idle_ads (with_phase job ph es)) ≤ length (idle_ads es) → length (cons_option (if s then Some e.1.ad else None) (idle_ads (with_phase job ph es))) ≤ length (cons_option (if s then Some e.1.ad else None) (idle_ads es))
+    more true rest = omega arith
+    more false rest = rest
+
+    by : (t : Bool) → length (idle_ads (with_phase job ph es)) ≤ length (idle_ads es) → length (idle_ads (if t then (e.0, in_phase ph e.1) ∷ es else e ∷ with_phase job ph es)) ≤ length (idle_ads (e ∷ es))
+    by true rest = rw busy (taken (is_idle e.1.phase))
+    by false rest = more (is_idle e.1.phase) rest
+
+fewer_idle : (job : JobId) (ph : Phase) (jobs : List (JobId × Job)) (j : Job) → is_idle ph ≡ false → job_at job jobs ≡ Some j → is_idle j.phase ≡ true → length (idle_ads (with_phase job ph jobs)) < length (idle_ads jobs)
+fewer_idle job ph [] j busy there idle = none_is_some j there
+fewer_idle job ph (e ∷ es) j busy there idle = by (same_job job e.0) there (λ at. fewer_idle job ph es j busy at idle)
+  where
+    taken : (s : Bool) → s ≡ true → length (idle_ads es) < length (cons_option (if s then Some e.1.ad else None) (idle_ads es))
+    taken true is = omega arith
+    taken false is = cc
+
+    more : (s : Bool) → length (idle_ads (with_phase job ph es)) < length (idle_ads es) → length (cons_option (if s then Some e.1.ad else None) (idle_ads (with_phase job ph es))) < length (cons_option (if s then Some e.1.ad else None) (idle_ads es))
+    more true rest = omega arith
+    more false rest = rest
+
+    by : (t : Bool) → (if t then Some e.1 else job_at job es) ≡ Some j → (job_at job es ≡ Some j → length (idle_ads (with_phase job ph es)) < length (idle_ads es)) → length (idle_ads (if t then (e.0, in_phase ph e.1) ∷ es else e ∷ with_phase job ph es)) < length (idle_ads (e ∷ es))
+    by true at rest = rw busy (taken (is_idle e.1.phase) (ap (λ (x : Job). is_idle x.phase) (some_same e.1 j at) ∙ idle))
+    by false at rest = more (is_idle e.1.phase) (rest at)
+
+-- a run that has ended
+pub rests_again : (p q r : PoolValue) (job : JobId) (slot : SlotId) (judged : Judgement) (reading : ℕ) (end : End) (late : ℕ) → IsResting p → refusal p (Start job slot judged reading) ≡ None → q ≡ after p (Start job slot judged reading) → r ≡ after q (Ended job end late) → IsResting r × (idle_count r < idle_count p)
+rests_again p q r job slot judged reading end late rests ok one two =
+    let on = running p job slot judged reading rests ok in
+    let j = starting p job slot judged reading rests ok in
+    let run = run_named slot (p.started + 1) in
+    let less = fewer_idle job (Running run reading) p.jobs j.0 refl j.1 j.2 in
+    let no_more = no_more_idle job (phase_after run end) (with_phase job (Running run reading) p.jobs) (not_idle run end) in
+    rw (two, one, on) (
+      record {
+        is_open = rests.is_open;
+        no_runs = rw (rests.no_runs, same_slot-same slot) refl;
+        jobs_once = once_with_phase job (phase_after run end) _ (once_with_phase job (Running run reading) p.jobs rests.jobs_once);
+        slots_once = rests.slots_once;
+      },
+      omega arith,
+    )
+
+pub open_at_end : (p q r : PoolValue) (job : JobId) (slot : SlotId) (judged : Judgement) (reading : ℕ) (end : End) (late : ℕ) → IsResting p → refusal p (Start job slot judged reading) ≡ None → q ≡ after p (Start job slot judged reading) → r ≡ after q (Ended job end late) → r.closed ≡ false
+open_at_end p q r job slot judged reading end late rests ok one two = (rests_again p q r job slot judged reading end late rests ok one two).0.is_open
+
+pub may_submit : (slots : List SlotAd) (p : PoolValue) (ad : Attributes) (reading : ℕ) → p ≡ opening_pool slots → refusal p (Submit (ad ∷ []) reading) ≡ None
+may_submit slots p ad reading first = rw first refl
+
+pub submitted_rests : (slots : List SlotAd) (p q : PoolValue) (ad : Attributes) (reading : ℕ) → AreNumberedOnce slots → p ≡ opening_pool slots → q ≡ after p (Submit (ad ∷ []) reading) → IsResting q
+submitted_rests slots p q ad reading once first next = rw (next, first) (record { is_open = refl; no_runs = refl; jobs_once = (refl, tt); slots_once = once })
+
+pub closed_after : (p q : PoolValue) (none : Mismatch) (reading : ℕ) → q ≡ after p (Close reading none) → q.closed ≡ true
+closed_after p q none reading next = rw next refl

@@ -1,5 +1,5 @@
 -- The user log, event by event.
-use Rattle.std.proofs.Common.{◌≡◌, ◌∙◌, ℕ, Bool, true, false, List, [], ◌∷◌, ◌++◌, length, Option, Some, None, refl, sym, ap, subst, arith, append_assoc, suc, codes}
+use Rattle.std.proofs.Common.{◌≡◌, ◌∙◌, ℕ, zero, suc, ◌+◌, ◌-◌, ◌<◌, ◌≤◌, Bool, true, false, List, [], ◌∷◌, ◌++◌, length, Option, Some, None, refl, sym, ap, subst, arith, append_assoc, codes}
 use Rattle.std.proofs.lemmas.List.{append-nil}
 use Rattle.std.specs.List.{All}
 use Rattle.jiff.specs.Words.{date_text, time_text}
@@ -10,16 +10,29 @@ use Rattle.pool_core.specs.declared.event.End.TheVariants.{Exited, Signalled, No
 use Rattle.pool_core.specs.declared.event.Event.{Event}
 use Rattle.pool_core.specs.declared.event.Event.TheVariants.{Submit, Start, Ended, Close}
 use Rattle.pool_core.specs.declared.history.Step.{Step}
-use Rattle.pool_core.specs.declared.pool.Pool.{Pool}
-use Rattle.pool_master.specs.UserLog.{IsStamp, IsEntry, IsStartLines, IsEndLines, IsLines, ArePrinted, IsLogOf, never_starts}
+use Rattle.pool_core.specs.declared.numbers.JobId.{JobId}
+use Rattle.pool_core.specs.declared.slot.SlotAd.{SlotAd}
+use Rattle.ad_tree.specs.Ad.{Attributes}
+use Rattle.pool_core.specs.PoolValue.{PoolValue}
+use Rattle.pool_core.specs.Reactions.{clusters_after}
+use Rattle.pool_master.specs.UserLog.{IsStamp, IsEntry, AreEntries, IsSubmitLines, IsStartLines, IsEndLines, IsLines, ArePrinted, IsLogOf, never_starts, numbers_text, submitted_text, submission_text, clusters_with}
 
 -- one event more
-pub prints_on : (machine : List ℕ) (all rest after : List Step) (step : Step) (text new first : List ℕ) → rest ≡ step ∷ after → IsLines machine (never_starts after) step.event first → new ≡ text ++ first → ((more : List ℕ) → ArePrinted machine rest more → ArePrinted machine all (text ++ more)) → (more : List ℕ) → ArePrinted machine after more → ArePrinted machine all (new ++ more)
-prints_on machine all rest after step text new first is printed grown so_far more later =
-    rw (grown, append_assoc) (so_far (first ++ more) (rw is (first, more, refl, printed, later)))
+pub prints_on : (slots : List SlotAd) (start clusters after_it : ℕ) (all rest after : List Step) (step : Step) (text new first : List ℕ) → rest ≡ step ∷ after → IsLines slots clusters after step.event first → after_it ≡ clusters_with clusters step.event → new ≡ text ++ first → ((more : List ℕ) → ArePrinted slots clusters rest more → ArePrinted slots start all (text ++ more)) → (more : List ℕ) → ArePrinted slots after_it after more → ArePrinted slots start all (new ++ more)
+prints_on slots start clusters after_it all rest after step text new first is printed count grown so_far more later =
+    rw (grown, append_assoc) (so_far (first ++ more) (rw is (first, more, refl, printed, rw count at later)))
 
-pub prints_all : (machine : List ℕ) (all rest : List Step) (text : List ℕ) → rest ≡ [] → ((more : List ℕ) → ArePrinted machine rest more → ArePrinted machine all (text ++ more)) → ArePrinted machine all text
-prints_all machine all rest text is so_far = let whole = so_far [] (rw is refl) in rw append-nil at whole
+pub prints_all : (slots : List SlotAd) (start clusters : ℕ) (all rest : List Step) (text : List ℕ) → rest ≡ [] → ((more : List ℕ) → ArePrinted slots clusters rest more → ArePrinted slots start all (text ++ more)) → ArePrinted slots start all text
+prints_all slots start clusters all rest text is so_far = let whole = so_far [] (rw is refl) in rw append-nil at whole
+
+-- one entry of a submission more
+pub enters_on : (cluster count reading proc : ℕ) (text new first : List ℕ) → proc < count → IsEntry (codes "000") cluster proc reading submitted_text first → new ≡ text ++ first → ((more : List ℕ) → AreEntries cluster proc (count - proc) reading more → AreEntries cluster 0 count reading (text ++ more)) → (more : List ℕ) → AreEntries cluster (proc + 1) (count - (proc + 1)) reading more → AreEntries cluster 0 count reading (new ++ more)
+enters_on cluster count reading proc text new first below entered grown so_far more later =
+    let one : count - proc ≡ suc (count - (proc + 1)) = omega arith in
+    rw (grown, append_assoc) (so_far (first ++ more) (rw one (first, more, refl, entered, later)))
+
+pub enters_all : (cluster count reading proc : ℕ) (text : List ℕ) → count - proc ≡ 0 → ((more : List ℕ) → AreEntries cluster proc (count - proc) reading more → AreEntries cluster 0 count reading (text ++ more)) → AreEntries cluster 0 count reading text
+enters_all cluster count reading proc text is so_far = let whole = so_far [] (rw is refl) in rw append-nil at whole
 
 pub none_left : (rest : List Step) → length rest ≡ 0 → rest ≡ []
 none_left [] none = refl
@@ -28,6 +41,17 @@ none_left (s ∷ ss) none = absurd (omega arith)
 pub all_behind : (P : Step → Type 0) (rest after : List Step) (step : Step) → rest ≡ step ∷ after → All P rest → All P after
 all_behind P rest after step is all = λ k d h. let whole : All P (step ∷ after) = subst (All P) is all in whole (suc k) d (omega arith)
 
+more_with : (clusters : ℕ) (ads : List Attributes) → clusters_after clusters ads ≤ clusters + 1
+more_with clusters [] = omega arith
+more_with clusters (ad ∷ ads) = omega arith
+
+-- an event is one more cluster at most
+pub no_more_clusters : (clusters : ℕ) (ev : Event) → clusters_with clusters ev ≤ clusters + 1
+no_more_clusters clusters (Submit jobs reading) = more_with clusters jobs
+no_more_clusters clusters (Start job slot judged reading) = omega arith
+no_more_clusters clusters (Ended job end reading) = omega arith
+no_more_clusters clusters (Close reading none) = omega arith
+
 -- The text is determined by the history.
 
 same_stamp : (reading : ℕ) (a b : List ℕ) → IsStamp reading a → IsStamp reading b → a ≡ b
@@ -35,33 +59,45 @@ same_stamp reading a b x y =
     let civil : x.civil ≡ y.civil = same_datetime x.civil y.civil (x.is ∙ sym y.is) in
     x.shown ∙ (ap (λ (c : DateTime). date_text c.date ++ 32 ∷ time_text None c.time) civil ∙ sym y.shown)
 
-same_entry : (number : List ℕ) (reading : ℕ) (said a b : List ℕ) → IsEntry number reading said a → IsEntry number reading said b → a ≡ b
-same_entry number reading said a b x y =
+same_entry : (number : List ℕ) (cluster proc reading : ℕ) (said a b : List ℕ) → IsEntry number cluster proc reading said a → IsEntry number cluster proc reading said b → a ≡ b
+same_entry number cluster proc reading said a b x y =
     let stamp : x.stamp ≡ y.stamp = same_stamp reading x.stamp y.stamp x.stamp_is y.stamp_is in
-    x.is ∙ (ap (λ (s : List ℕ). number ++ (codes " (001.000.000) " ++ (s ++ (codes " " ++ said)))) stamp ∙ sym y.is)
+    x.is ∙ (ap (λ (s : List ℕ). number ++ (codes " " ++ (numbers_text cluster proc ++ (codes " " ++ (s ++ (codes " " ++ said)))))) stamp ∙ sym y.is)
 
-same_start_lines : (never : Bool) (machine : List ℕ) (reading : ℕ) (a b : List ℕ) → IsStartLines never machine reading a → IsStartLines never machine reading b → a ≡ b
-same_start_lines true machine reading a b x y = x ∙ sym y
-same_start_lines false machine reading a b x y = same_entry _ reading _ a b x y
-
-same_end_lines : (end : End) (reading : ℕ) (a b : List ℕ) → IsEndLines end reading a → IsEndLines end reading b → a ≡ b
-same_end_lines (Exited code) reading a b x y = same_entry _ reading _ a b x y
-same_end_lines (Signalled signal) reading a b x y = same_entry _ reading _ a b x y
-same_end_lines NotStarted reading a b x y = same_entry _ reading _ a b x y
-
-same_lines : (machine : List ℕ) (never : Bool) (ev : Event) (a b : List ℕ) → IsLines machine never ev a → IsLines machine never ev b → a ≡ b
-same_lines machine never (Submit program memory reading) a b x y = same_entry _ reading _ a b x y
-same_lines machine never (Start judged reading) a b x y = same_start_lines never machine reading a b x y
-same_lines machine never (Ended end reading) a b x y = same_end_lines end reading a b x y
-same_lines machine never (Close reading) a b x y = x ∙ sym y
-
-same_printed : (machine : List ℕ) (steps : List Step) (a b : List ℕ) → ArePrinted machine steps a → ArePrinted machine steps b → a ≡ b
-same_printed machine [] a b x y = x ∙ sym y
-same_printed machine (s ∷ ss) a b x y =
-    let first : x.0 ≡ y.0 = same_lines machine (never_starts ss) s.event x.0 y.0 x.3 y.3 in
-    let rest : x.1 ≡ y.1 = same_printed machine ss x.1 y.1 x.4 y.4 in
+same_entries : (cluster proc count reading : ℕ) (a b : List ℕ) → AreEntries cluster proc count reading a → AreEntries cluster proc count reading b → a ≡ b
+same_entries cluster proc zero reading a b x y = x ∙ sym y
+same_entries cluster proc (suc count) reading a b x y =
+    let first : x.0 ≡ y.0 = same_entry _ cluster proc reading _ x.0 y.0 x.3 y.3 in
+    let rest : x.1 ≡ y.1 = same_entries cluster (proc + 1) count reading x.1 y.1 x.4 y.4 in
     x.2 ∙ (ap (λ (t : List ℕ). t ++ x.1) first ∙ (ap (λ (t : List ℕ). y.0 ++ t) rest ∙ sym y.2))
 
-pub same_log : (opening : Option Pool) (steps : List Step) (a b : List ℕ) → IsLogOf opening steps a → IsLogOf opening steps b → a ≡ b
+same_submit_lines : (cluster count reading : ℕ) (a b : List ℕ) → IsSubmitLines cluster count reading a → IsSubmitLines cluster count reading b → a ≡ b
+same_submit_lines cluster count reading a b x y =
+    let entries : x.0 ≡ y.0 = same_entries cluster 0 count reading x.0 y.0 x.2 y.2 in
+    x.1 ∙ (ap (λ (t : List ℕ). t ++ submission_text count cluster) entries ∙ sym y.1)
+
+same_start_lines : (never : Bool) (job : JobId) (slot : List ℕ) (reading : ℕ) (a b : List ℕ) → IsStartLines never job slot reading a → IsStartLines never job slot reading b → a ≡ b
+same_start_lines true job slot reading a b x y = x ∙ sym y
+same_start_lines false job slot reading a b x y = same_entry _ job.cluster job.proc reading _ a b x y
+
+same_end_lines : (end : End) (job : JobId) (reading : ℕ) (a b : List ℕ) → IsEndLines end job reading a → IsEndLines end job reading b → a ≡ b
+same_end_lines (Exited code) job reading a b x y = same_entry _ job.cluster job.proc reading _ a b x y
+same_end_lines (Signalled signal) job reading a b x y = same_entry _ job.cluster job.proc reading _ a b x y
+same_end_lines NotStarted job reading a b x y = same_entry _ job.cluster job.proc reading _ a b x y
+
+same_lines : (slots : List SlotAd) (clusters : ℕ) (behind : List Step) (ev : Event) (a b : List ℕ) → IsLines slots clusters behind ev a → IsLines slots clusters behind ev b → a ≡ b
+same_lines slots clusters behind (Submit jobs reading) a b x y = same_submit_lines (clusters + 1) (length jobs) reading a b x y
+same_lines slots clusters behind (Start job slot judged reading) a b x y = same_start_lines (never_starts job behind) job _ reading a b x y
+same_lines slots clusters behind (Ended job end reading) a b x y = same_end_lines end job reading a b x y
+same_lines slots clusters behind (Close reading none) a b x y = x ∙ sym y
+
+same_printed : (slots : List SlotAd) (clusters : ℕ) (steps : List Step) (a b : List ℕ) → ArePrinted slots clusters steps a → ArePrinted slots clusters steps b → a ≡ b
+same_printed slots clusters [] a b x y = x ∙ sym y
+same_printed slots clusters (s ∷ ss) a b x y =
+    let first : x.0 ≡ y.0 = same_lines slots clusters ss s.event x.0 y.0 x.3 y.3 in
+    let rest : x.1 ≡ y.1 = same_printed slots (clusters_with clusters s.event) ss x.1 y.1 x.4 y.4 in
+    x.2 ∙ (ap (λ (t : List ℕ). t ++ x.1) first ∙ (ap (λ (t : List ℕ). y.0 ++ t) rest ∙ sym y.2))
+
+pub same_log : (opening : Option PoolValue) (steps : List Step) (a b : List ℕ) → IsLogOf opening steps a → IsLogOf opening steps b → a ≡ b
 same_log None steps a b x y = x ∙ sym y
-same_log (Some p) steps a b x y = same_printed p.name steps a b x y
+same_log (Some p) steps a b x y = same_printed p.slots 0 steps a b x y

@@ -1,5 +1,4 @@
 -- Reading a whole file.
-use Rattle.std.specs.Prelude.{ℕ}
 use Rattle.pool_outer.specs.declared.store.StoreError.{StoreError}
 use Rattle.pool_outer.specs.declared.store.StoreError.TheVariants.{Missing, Failed, Memory}
 use Rattle.pool_master.specs.declared.files.ReadError.{ReadError}

@@ -3,6 +3,7 @@ pub mod Words
 pub mod Files
 pub mod Forms
 pub mod Input
+pub mod Made
 pub mod Runs
 pub mod Follows
 pub mod UserLog

@@ -1,52 +1,44 @@
 -- What a whole run leaves.
-use Rattle.std.specs.Prelude.{◌≡◌, ◌⊎◌, ℕ, ◌≤◌, List, [], ◌∷◌, ◌++◌, take, Bool, true, false, Option, Some, None}
+use Rattle.std.specs.Prelude.{◌≡◌, ◌⊎◌, ℕ, List, [], ◌∷◌, ◌++◌, take, Bool, true, false, Option, Some, None}
 use Rattle.pool_outer.specs.declared.spawner.ChildState.{ChildState}
 use Rattle.pool_outer.specs.declared.spawner.Launch.{Launch}
 use Rattle.pool_outer.specs.Cause.{Rose}
 use Rattle.pool_core.specs.declared.history.History.{History}
 use Rattle.pool_core.specs.declared.history.Step.{Step}
-use Rattle.pool_core.specs.declared.pool.Job.{Job}
-use Rattle.pool_core.specs.declared.pool.Phase.{Phase}
-use Rattle.pool_core.specs.declared.pool.Phase.TheVariants.{Idle, Running, Held, Finished}
-use Rattle.pool_core.specs.declared.pool.Pool.{Pool}
 use Rattle.pool_core.specs.Histories.{LeadsTo, submits, ends_in_close}
 use Rattle.pool_core.specs.Moving.{EachMoves}
+use Rattle.pool_core.specs.PoolValue.{PoolValue}
 use Rattle.pool_core.specs.Reactions.{opening_pool, after}
+use Rattle.pool_core.specs.Reading.{has_unfinished}
 use Rattle.pool_master.specs.declared.status.Status.{Status}
 use Rattle.pool_master.specs.declared.status.Status.TheVariants as status
 use Rattle.pool_master.specs.Input.{IsInputOf}
+use Rattle.pool_master.specs.Made.{machine_slot, job_ad}
 use Rattle.pool_master.specs.Runs.{started_runs, launches_of}
 use Rattle.pool_master.specs.Follows.{Follows}
 use Rattle.pool_master.specs.Words.{IsRun}
 use Rattle.pool_master.specs.UserLog.{IsUserLog}
 
 -- the pool that a history leads to
-abbrev pub pool_after : Pool → List Step → Pool
+abbrev pub pool_after : PoolValue → List Step → PoolValue
 pool_after p [] = p
 pool_after p (s ∷ ss) = pool_after (after p s.event) ss
 
-abbrev pub is_unfinished : Phase → Bool
-is_unfinished Idle = true
-is_unfinished (Running judged until) = true
-is_unfinished Held = true
-is_unfinished (Finished end) = false
-
 -- a job is left in the queue
-abbrev pub job_left : Option Job → Bool
-job_left None = false
-job_left (Some j) = is_unfinished j.phase
+abbrev pub job_left : PoolValue → Bool
+job_left p = has_unfinished p.jobs
 
-abbrev pub ClosesFrom : Option Pool → List Step → Bool → Type 0
+abbrev pub ClosesFrom : Option PoolValue → List Step → Bool → Type 0
 ClosesFrom None list left = ⊥
-ClosesFrom (Some opening) list left = (ends_in_close list ≡ true) × (job_left (pool_after opening list).job ≡ left)
+ClosesFrom (Some opening) list left = (ends_in_close list ≡ true) × (job_left (pool_after opening list) ≡ left)
 
 -- the history ends in a Close, and then a job is left or none is
 abbrev pub IsClosed : History → Bool → Type 0
 IsClosed history left = ClosesFrom history.opening history.list left
 
-abbrev pub ReplaysFrom : Option Pool → List Step → Type 0
+abbrev pub ReplaysFrom : Option PoolValue → List Step → Type 0
 ReplaysFrom None list = list ≡ []
-ReplaysFrom (Some opening) list = (opening ≡ opening_pool opening.name opening.memory) × LeadsTo opening list (pool_after opening list)
+ReplaysFrom (Some opening) list = (opening ≡ opening_pool opening.slots) × LeadsTo opening list (pool_after opening list)
 
 -- the history begins at the opening of a pool, without a load, and each of its events does what is defined; without a pool
 -- it is empty
@@ -54,7 +46,7 @@ pub record IsReplay (history : History) : Type 0 where
   pub replays : ReplaysFrom history.opening history.list
   pub no_load : history.load ≡ false
 
-abbrev pub IsSafeFrom : Option Pool → List Step → Type 0
+abbrev pub IsSafeFrom : Option PoolValue → List Step → Type 0
 IsSafeFrom None list = Unit {0}
 IsSafeFrom (Some opening) list = EachMoves opening list
 
@@ -62,40 +54,45 @@ IsSafeFrom (Some opening) list = EachMoves opening list
 abbrev pub IsSafe : History → Type 0
 IsSafe history = IsSafeFrom history.opening history.list
 
+-- that job was submitted, once and alone, as an ad of the reading at which it was
+abbrev pub IsSubmitted : List ℕ → ℕ → List Step → Type 0
+IsSubmitted program request list = (reading : ℕ) × (submits list ≡ (job_ad program request reading ∷ [], reading) ∷ [])
+
 -- what is submitted is that job, if anything is yet, and it is once the history ends in a Close
 pub record Submits (program : List ℕ) (request : ℕ) (list : List Step) : Type 0 where
-  pub partly : (submits list ≡ []) ⊎ (submits list ≡ (program, request) ∷ [])
-  pub closed : ends_in_close list ≡ true → submits list ≡ (program, request) ∷ []
+  pub partly : (submits list ≡ []) ⊎ IsSubmitted program request list
+  pub closed : ends_in_close list ≡ true → IsSubmitted program request list
 
--- the pool is opened for that machine, and that job is submitted
-pub record IsOfJob (name : List ℕ) (memory : ℕ) (program : List ℕ) (request : ℕ) (opening : Pool) (list : List Step) : Type 0 where
-  pub name_is : opening.name ≡ name
-  pub memory_is : opening.memory ≡ memory
+-- the pool is opened with the one slot of that machine, and that job is submitted
+pub record IsOfJob (name : List ℕ) (memory : ℕ) (program : List ℕ) (request : ℕ) (opening : PoolValue) (list : List Step) : Type 0 where
+  pub opening_is : opening ≡ opening_pool (machine_slot name memory ∷ [])
   pub submitted : Submits program request list
 
-abbrev pub OfJobFrom : List ℕ → ℕ → List ℕ → ℕ → Option Pool → List Step → Type 0
+abbrev pub OfJobFrom : List ℕ → ℕ → List ℕ → ℕ → Option PoolValue → List Step → Type 0
 OfJobFrom name memory program request None list = Unit {0}
 OfJobFrom name memory program request (Some opening) list = IsOfJob name memory program request opening list
 
 -- the machine is that of the configuration, and the job that of the submit file
-pub record IsOfFiles (file : List ℕ → Option (List ℕ)) (config submit : List ℕ) (opening : Pool) (list : List Step) : Type 0 where
+pub record IsOfFiles (file : List ℕ → Option (List ℕ)) (config submit : List ℕ) (opening : PoolValue) (list : List Step) : Type 0 where
+  pub name : List ℕ
+  pub memory : ℕ
   pub program : List ℕ
   pub request : ℕ
-  pub input : IsInputOf file config submit opening.name opening.memory program request
-  pub submitted : Submits program request list
+  pub input : IsInputOf file config submit name memory program request
+  pub of_job : IsOfJob name memory program request opening list
 
-abbrev pub OfFilesFrom : (List ℕ → Option (List ℕ)) → List ℕ → List ℕ → Option Pool → List Step → Type 0
+abbrev pub OfFilesFrom : (List ℕ → Option (List ℕ)) → List ℕ → List ℕ → Option PoolValue → List Step → Type 0
 OfFilesFrom file config submit None list = Unit {0}
 OfFilesFrom file config submit (Some opening) list = IsOfFiles file config submit opening list
 
 -- they are those of the files that the words name
-pub record IsOfInput (file : List ℕ → Option (List ℕ)) (words : List (List ℕ)) (opening : Pool) (list : List Step) : Type 0 where
+pub record IsOfInput (file : List ℕ → Option (List ℕ)) (words : List (List ℕ)) (opening : PoolValue) (list : List Step) : Type 0 where
   pub config : List ℕ
   pub submit : List ℕ
   pub words_are : IsRun words config submit
   pub files : IsOfFiles file config submit opening list
 
-abbrev pub OfInputFrom : (List ℕ → Option (List ℕ)) → List (List ℕ) → Option Pool → List Step → Type 0
+abbrev pub OfInputFrom : (List ℕ → Option (List ℕ)) → List (List ℕ) → Option PoolValue → List Step → Type 0
 OfInputFrom file words None list = Unit {0}
 OfInputFrom file words (Some opening) list = IsOfInput file words opening list
 

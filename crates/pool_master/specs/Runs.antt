@@ -23,10 +23,10 @@ run_with (Some launch) end = record { launch = launch; end = end } ∷ []
 
 -- the run that an event ends, where that launch is on
 abbrev pub ended_by : Option Launch → Event → List Run
-ended_by launch (Submit program memory reading) = []
-ended_by launch (Start judged reading) = []
-ended_by launch (Ended end reading) = run_with launch end
-ended_by launch (Close reading) = []
+ended_by launch (Submit jobs reading) = []
+ended_by launch (Start job slot judged reading) = []
+ended_by launch (Ended job end reading) = run_with launch end
+ended_by launch (Close reading none) = []
 
 abbrev pub launched_or : Option Launch → Kept → Option Launch
 launched_or before kept.Done = before
@@ -34,10 +34,10 @@ launched_or before (kept.Launch what) = Some what
 
 -- the launch that is on behind a step: an ending ends it, and a Launch answer begins one
 abbrev pub on_behind : Option Launch → Event → Kept → Option Launch
-on_behind before (Submit program memory reading) answer = launched_or before answer
-on_behind before (Start judged reading) answer = launched_or before answer
-on_behind before (Ended end reading) answer = None
-on_behind before (Close reading) answer = launched_or before answer
+on_behind before (Submit jobs reading) answer = launched_or before answer
+on_behind before (Start job slot judged reading) answer = launched_or before answer
+on_behind before (Ended job end reading) answer = None
+on_behind before (Close reading none) answer = launched_or before answer
 
 abbrev pub launch_on : Option Launch → List Step → Option Launch
 launch_on before [] = before

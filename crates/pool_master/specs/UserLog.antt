@@ -1,5 +1,5 @@
 -- The user log of a history (HTCondor manual, "Job Event Log Codes").
-use Rattle.std.specs.Prelude.{◌≡◌, ℕ, List, [], ◌∷◌, ◌++◌, codes, ℤ, pos, ◌*ℤ◌, Option, Some, None, Bool, true, false}
+use Rattle.std.specs.Prelude.{◌≡◌, ℕ, zero, suc, ◌+◌, nat_lt, List, [], ◌∷◌, ◌++◌, length, codes, decimal, ℤ, pos, ◌*ℤ◌, Option, Some, None, Bool, true, false, if◌then◌else◌}
 use Rattle.std.specs.Fmt.{signed_decimal}
 use Rattle.jiff.specs.Words.{civil_nanos, date_text, time_text}
 use Rattle.jiff.specs.declared.civil.DateTime.{DateTime}
@@ -9,7 +9,12 @@ use Rattle.pool_core.specs.declared.event.Event.{Event}
 use Rattle.pool_core.specs.declared.event.Event.TheVariants.{Submit, Start, Ended, Close}
 use Rattle.pool_core.specs.declared.history.History.{History}
 use Rattle.pool_core.specs.declared.history.Step.{Step}
-use Rattle.pool_core.specs.declared.pool.Pool.{Pool}
+use Rattle.pool_core.specs.declared.numbers.JobId.{JobId}
+use Rattle.pool_core.specs.declared.numbers.SlotId.{SlotId}
+use Rattle.pool_core.specs.declared.slot.SlotAd.{SlotAd}
+use Rattle.pool_core.specs.Numbers.{same_job}
+use Rattle.pool_core.specs.PoolValue.{PoolValue, slot_at}
+use Rattle.pool_core.specs.Reactions.{clusters_after}
 use Rattle.pool_master.specs.Runs.{is_not_started}
 
 -- `YYYY-MM-DD HH:MM:SS`, the civil date and time of the reading in UTC
@@ -18,17 +23,29 @@ pub record IsStamp (reading : ℕ) (text : List ℕ) : Type 0 where
   pub is : civil_nanos civil ≡ pos reading *ℤ pos 1000000000
   pub shown : text ≡ date_text civil.date ++ 32 ∷ time_text None civil.time
 
--- an event of the log: its number, the job 1.0, the date and time, and what it says
-pub record IsEntry (number : List ℕ) (reading : ℕ) (said text : List ℕ) : Type 0 where
+-- in decimal, with zeros in front up to three digits
+abbrev pub three_digits : ℕ → List ℕ
+three_digits n = if nat_lt n 10 then codes "00" ++ decimal n else (if nat_lt n 100 then codes "0" ++ decimal n else decimal n)
+
+-- `(CLUSTER.PROC.000)`, the numbers of a job
+abbrev pub numbers_text : ℕ → ℕ → List ℕ
+numbers_text cluster proc = codes "(" ++ (three_digits cluster ++ (codes "." ++ (three_digits proc ++ codes ".000)")))
+
+-- an event of the log: its number, the job's numbers, the date and time, and what it says
+pub record IsEntry (number : List ℕ) (cluster proc reading : ℕ) (said text : List ℕ) : Type 0 where
   pub stamp : List ℕ
   pub stamp_is : IsStamp reading stamp
-  pub is : text ≡ number ++ (codes " (001.000.000) " ++ (stamp ++ (codes " " ++ said)))
+  pub is : text ≡ number ++ (codes " " ++ (numbers_text cluster proc ++ (codes " " ++ (stamp ++ (codes " " ++ said)))))
 
 abbrev pub submitted_text : List ℕ
-submitted_text = codes "Job submitted from host: <pool>\n...\n1 job(s) submitted to cluster 1.\n"
+submitted_text = codes "Job submitted from host: <pool>\n...\n"
+
+-- the line of a submission of so many jobs (HTCondor manual, condor_submit)
+abbrev pub submission_text : ℕ → ℕ → List ℕ
+submission_text count cluster = decimal count ++ (codes " job(s) submitted to cluster " ++ (decimal cluster ++ codes ".\n"))
 
 abbrev pub executing_text : List ℕ → List ℕ
-executing_text machine = codes "Job executing on host: <slot1@" ++ (machine ++ codes ">\n...\n")
+executing_text slot = codes "Job executing on host: <" ++ (slot ++ codes ">\n...\n")
 
 abbrev pub exited_text : ℤ → List ℕ
 exited_text code = codes "Job terminated.\n\t(1) Normal termination (return value " ++ (signed_decimal code ++ codes ")\n...\n")
@@ -39,43 +56,67 @@ signalled_text signal = codes "Job terminated.\n\t(0) Abnormal termination (sign
 abbrev pub held_text : List ℕ
 held_text = codes "Job was held.\n\tFailed to start\n...\n"
 
-abbrev pub next_end : Event → Bool → Bool
-next_end (Submit program memory reading) later = later
-next_end (Start judged reading) later = later
-next_end (Ended end reading) later = is_not_started end
-next_end (Close reading) later = later
+-- the name of a slot
+abbrev pub name_in : Option SlotAd → List ℕ
+name_in None = []
+name_in (Some s) = s.name
 
--- the run that is on before these events ends as one that didn't start
-abbrev pub never_starts : List Step → Bool
-never_starts [] = false
-never_starts (s ∷ ss) = next_end s.event (never_starts ss)
+abbrev pub name_of : List SlotAd → SlotId → List ℕ
+name_of slots slot = name_in (slot_at slot slots)
 
--- what the end of a run prints
-abbrev pub IsEndLines : End → ℕ → List ℕ → Type 0
-IsEndLines (Exited code) reading text = IsEntry (codes "005") reading (exited_text code) text
-IsEndLines (Signalled signal) reading text = IsEntry (codes "005") reading (signalled_text signal) text
-IsEndLines NotStarted reading text = IsEntry (codes "012") reading held_text text
+abbrev pub next_end : JobId → Event → Bool → Bool
+next_end job (Submit jobs reading) later = later
+next_end job (Start other slot judged reading) later = later
+next_end job (Ended other end reading) later = if same_job job other then is_not_started end else later
+next_end job (Close reading none) later = later
+
+-- the job's run that is on before these events ends as one that didn't start
+abbrev pub never_starts : JobId → List Step → Bool
+never_starts job [] = false
+never_starts job (s ∷ ss) = next_end job s.event (never_starts job ss)
+
+-- the entries of so many jobs that are submitted, from a proc on
+abbrev pub AreEntries : ℕ → ℕ → ℕ → ℕ → List ℕ → Type 0
+AreEntries cluster proc zero reading text = text ≡ []
+AreEntries cluster proc (suc count) reading text = (first rest : List ℕ) × (text ≡ first ++ rest) × IsEntry (codes "000") cluster proc reading submitted_text first × AreEntries cluster (proc + 1) count reading rest
+
+-- what a submission of so many jobs prints: their entries, and its line
+abbrev pub IsSubmitLines : ℕ → ℕ → ℕ → List ℕ → Type 0
+IsSubmitLines cluster count reading text = (entries : List ℕ) × (text ≡ entries ++ submission_text count cluster) × AreEntries cluster 0 count reading entries
 
 -- what the start of a run prints: nothing where it never starts
-abbrev pub IsStartLines : Bool → List ℕ → ℕ → List ℕ → Type 0
-IsStartLines true machine reading text = text ≡ []
-IsStartLines false machine reading text = IsEntry (codes "001") reading (executing_text machine) text
+abbrev pub IsStartLines : Bool → JobId → List ℕ → ℕ → List ℕ → Type 0
+IsStartLines true job slot reading text = text ≡ []
+IsStartLines false job slot reading text = IsEntry (codes "001") job.cluster job.proc reading (executing_text slot) text
 
--- what an event prints on a machine of that name, where the run that it starts never starts or does
-abbrev pub IsLines : List ℕ → Bool → Event → List ℕ → Type 0
-IsLines machine never (Submit program memory reading) text = IsEntry (codes "000") reading submitted_text text
-IsLines machine never (Start judged reading) text = IsStartLines never machine reading text
-IsLines machine never (Ended end reading) text = IsEndLines end reading text
-IsLines machine never (Close reading) text = text ≡ []
+-- what the end of a run prints
+abbrev pub IsEndLines : End → JobId → ℕ → List ℕ → Type 0
+IsEndLines (Exited code) job reading text = IsEntry (codes "005") job.cluster job.proc reading (exited_text code) text
+IsEndLines (Signalled signal) job reading text = IsEntry (codes "005") job.cluster job.proc reading (signalled_text signal) text
+IsEndLines NotStarted job reading text = IsEntry (codes "012") job.cluster job.proc reading held_text text
+
+-- what an event prints in a pool of these slots, before which so many clusters were submitted, and behind which these steps come
+abbrev pub IsLines : List SlotAd → ℕ → List Step → Event → List ℕ → Type 0
+IsLines slots clusters behind (Submit jobs reading) text = IsSubmitLines (clusters + 1) (length jobs) reading text
+IsLines slots clusters behind (Start job slot judged reading) text = IsStartLines (never_starts job behind) job (name_of slots slot) reading text
+IsLines slots clusters behind (Ended job end reading) text = IsEndLines end job reading text
+IsLines slots clusters behind (Close reading none) text = text ≡ []
+
+-- how many clusters were submitted, with an event
+abbrev pub clusters_with : ℕ → Event → ℕ
+clusters_with clusters (Submit jobs reading) = clusters_after clusters jobs
+clusters_with clusters (Start job slot judged reading) = clusters
+clusters_with clusters (Ended job end reading) = clusters
+clusters_with clusters (Close reading none) = clusters
 
 -- what these events print, one after the other
-abbrev pub ArePrinted : List ℕ → List Step → List ℕ → Type 0
-ArePrinted machine [] text = text ≡ []
-ArePrinted machine (s ∷ ss) text = (first rest : List ℕ) × (text ≡ first ++ rest) × IsLines machine (never_starts ss) s.event first × ArePrinted machine ss rest
+abbrev pub ArePrinted : List SlotAd → ℕ → List Step → List ℕ → Type 0
+ArePrinted slots clusters [] text = text ≡ []
+ArePrinted slots clusters (s ∷ ss) text = (first rest : List ℕ) × (text ≡ first ++ rest) × IsLines slots clusters ss s.event first × ArePrinted slots (clusters_with clusters s.event) ss rest
 
-abbrev pub IsLogOf : Option Pool → List Step → List ℕ → Type 0
+abbrev pub IsLogOf : Option PoolValue → List Step → List ℕ → Type 0
 IsLogOf None steps text = text ≡ []
-IsLogOf (Some opening) steps text = ArePrinted opening.name steps text
+IsLogOf (Some opening) steps text = ArePrinted opening.slots 0 steps text
 
 -- the user log of a history
 abbrev pub IsUserLog : History → List ℕ → Type 0

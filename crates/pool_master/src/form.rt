@@ -48,6 +48,7 @@ impl From<Memory> for FormError {
 /// The configuration that a file's bytes are: the lines `MACHINE = NAME` and `MEMORY = N`.
 pub fn config_of(alloc: Global, bytes: &[u8]) -> Result<Config, FormError>
     ensures ok { IfOk result (λ c. IsConfig bytes.now c.name c.memory) }
+    ensures small { IfOk result (λ c. c.memory ≤ 1000000000) }
     ensures bad { IfErr result (λ e. (n : ℕ) → e ≡ FormError.Line n → IsFirstBad config_forms (lines_of bytes.now) n) }
 {
     let Some((name, rest)) = machine(bytes) else {
@@ -68,6 +69,7 @@ pub fn config_of(alloc: Global, bytes: &[u8]) -> Result<Config, FormError>
 /// The job that a submit file's bytes ask for: the lines `executable = PATH`, `request_memory = N` and `queue`.
 pub fn submit_of(alloc: Global, bytes: &[u8]) -> Result<SubmitFile, FormError>
     ensures ok { IfOk result (λ s. IsSubmitFile bytes.now s.program s.memory) }
+    ensures small { IfOk result (λ s. s.memory ≤ 1000000000) }
     ensures bad { IfErr result (λ e. (n : ℕ) → e ≡ FormError.Line n → IsFirstBad submit_forms (lines_of bytes.now) n) }
 {
     let Some((program, rest)) = executable(bytes) else {

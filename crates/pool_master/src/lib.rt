@@ -5,6 +5,7 @@ mod files;
 mod form;
 mod laws;
 mod load;
+mod made;
 mod output;
 mod play;
 mod run;
@@ -12,6 +13,8 @@ mod status;
 mod user_log;
 mod words;
 
-pub use laws::{first_bad_line_is_determined, user_log_is_determined};
+pub use laws::{
+    a_job_fits_where_its_memory_does, first_bad_line_is_determined, user_log_is_determined,
+};
 pub use run::{Ran, run_pool};
 pub use status::{Kind, Status};

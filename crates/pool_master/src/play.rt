@@ -1,4 +1,6 @@
-ghost use Rattle.std.specs.Prelude.{◌≡◌, ◌≢◌, ◌≤◌, ◌+◌, ◌++◌, ◌∷◌, [], ℕ, List, Bool, true, false, None, Some, IfOk, OnOk, OnErr, IsTrue, is_ok, ◌↔◌, ◌⊎◌};
+ghost use Rattle.std.specs.Prelude.{◌≡◌, ◌≢◌, ◌≤◌, ◌<◌, ◌+◌, ◌^◌, ◌++◌, ◌∷◌, [], ℕ, List, Bool, true, false, None, Some, IfOk, OnOk, OnErr, IsTrue, is_ok, MatchOption, slice_get, ◌↔◌, ◌⊎◌};
+ghost use Rattle.std.specs.Option.{option_copied};
+ghost use Rattle.ad_eval.specs.Match.{matches, IsFirstMatch};
 ghost use Rattle.pool_outer.specs.declared.spawner.Launch.{Launch};
 ghost use Rattle.pool_outer.specs.Cause.{Rose};
 ghost use Rattle.pool_core.specs.declared.answer.Kept.TheVariants as kept;
@@ -6,19 +8,41 @@ ghost use Rattle.pool_core.specs.declared.event.End.TheVariants.{NotStarted};
 ghost use Rattle.pool_core.specs.declared.event.Event.TheVariants.{Submit, Start, Close};
 ghost use Rattle.pool_core.specs.Answers.{kept_of};
 ghost use Rattle.pool_core.specs.Histories.{submits};
-ghost use Rattle.pool_core.specs.Reactions.{refusal, after, answer_to, opening_pool};
+ghost use Rattle.pool_core.specs.Reactions.{refusal, after, answer_to, opening_pool, idle_ads, slot_ads};
+ghost use Rattle.pool_master.specs.Made.{job_ad};
 ghost use Rattle.pool_master.specs.Runs.{started_runs, launches_of, when_started, state_of};
-ghost use Rattle.pool_master.specs.Follows.{Follows, IsBetween, IsIdle, Happens};
+ghost use Rattle.pool_master.specs.Follows.{Follows, IsBetween, IsResting, AreNumberedOnce, Happens, HappensOnce, event_of, idle_count};
+ghost use Rattle.pool_master.specs.Run.{IsSubmitted};
 
 use crate::form::SubmitFile;
-use ad_value::{Copied, Memory};
-use pool_core::{Answer, Course, End, Event, MemoryMatch};
+use crate::made::job_ad;
+use ad_eval::{Judged, NoMatch, Steps, judge, none_match};
+use ad_tree::{Ad, AdList};
+use ad_value::Memory;
+use pool_core::{Answer, Course, End, Event, JobId, Pool, SlotAd, SlotId};
 use pool_outer::{ChildState, Clock, Launch, SpawnError, Spawner};
 use std::alloc::Global;
+use std::marker::Brand;
 use std::sync::Wait;
+use std::sync::ledger::{Blank, Ledger};
 
-/// Submits the job of a submit file, runs it where it matches the slot, and closes the pool. Want of memory leaves the
-/// course where it has come to.
+/// A job that is to start on a slot, which it was judged to match.
+#[derive(Drop)]
+pub(crate) struct Pair {
+    pub job: JobId,
+    pub slot: SlotId,
+    pub judged: Judged,
+}
+
+/// What a pool in which no run is on does next.
+#[derive(Drop)]
+pub(crate) enum Next {
+    Close { none: NoMatch },
+    Start { pair: Pair },
+}
+
+/// Submits the job of a submit file, runs each idle job that matches a slot, one after the other, and closes the pool once none
+/// does. Want of memory leaves the course where it has come to.
 pub fn play<R: Wait, C: Clock, P: Spawner>(
     rt: &R,
     alloc: Global,
@@ -29,17 +53,18 @@ pub fn play<R: Wait, C: Clock, P: Spawner>(
 ) -> Result<(), Memory>
     requires idle { P.count spawner.old ≡ 0 }
     requires empty { course.old.list ≡ [] }
-    requires opened { course.old.pool ≡ opening_pool course.old.pool.name course.old.pool.memory }
+    requires opened { course.old.pool ≡ opening_pool course.old.pool.slots }
+    requires slots { AreNumberedOnce course.old.pool.slots }
+    requires small { file.now.memory < 2 ^ 63 }
     ensures follows { Follows (C.allows clock.now) (P.tells spawner.old) (P.launches spawner.new) (P.seen spawner.new) (P.killed spawner.new) (P.faults spawner.old) (P.faults spawner.new) course.new.list }
     ensures between { OnOk result (IsBetween (P.tells spawner.old) (P.launches spawner.new) course.new.list) }
-    ensures submitted { OnOk result (submits course.new.list ≡ (file.now.program, file.now.memory) ∷ []) }
-    ensures partly { (submits course.new.list ≡ []) ⊎ (submits course.new.list ≡ (file.now.program, file.now.memory) ∷ []) }
+    ensures submitted { OnOk result (IsSubmitted file.now.program file.now.memory course.new.list) }
+    ensures partly { (submits course.new.list ≡ []) ⊎ IsSubmitted file.now.program file.now.memory course.new.list }
     ensures closed { IsTrue (is_ok result) ↔ (course.new.pool.closed ≡ true) }
     ensures opening { course.new.opening ≡ course.old.opening }
 {
     submit(alloc, course, clock, file)?;
-    serve(rt, alloc, course, clock, spawner, file.memory)?;
-    close(alloc, course, clock)?;
+    serve(rt, alloc, course, clock, spawner)?;
     Ok(())
 }
 
@@ -50,96 +75,173 @@ fn submit<C: Clock>(
     clock: &C,
     file: &SubmitFile,
 ) -> Result<(), Memory>
-    requires { (reading : ℕ) → refusal course.old.pool (Submit file.now.program file.now.memory reading) ≡ None }
-    ensures ok { OnOk result (Happens (C.allows clock.now) (Submit file.now.program file.now.memory) kept.Done course.old course.new) }
-    ensures err { OnErr result (course.new ≡ course.old) }
-{
-    let program = file.program.copy(alloc)?;
-    let reading = clock.read();
-    let memory = file.memory;
-    act(
-        alloc,
-        course,
-        Event::Submit {
-            program,
-            memory,
-            reading,
-        },
-    )?;
-    Ok(())
-}
-
-fn close<C: Clock>(alloc: Global, course: &mut Course, clock: &C) -> Result<(), Memory>
-    requires { (reading : ℕ) → refusal course.old.pool (Close reading) ≡ None }
-    ensures ok { OnOk result (Happens (C.allows clock.now) Close kept.Done course.old course.new) }
+    requires opened { course.old.pool ≡ opening_pool course.old.pool.slots }
+    requires small { file.now.memory < 2 ^ 63 }
+    ensures ok { OnOk result (HappensOnce (C.allows clock.now) (λ t. Submit (job_ad file.now.program file.now.memory t ∷ []) t) kept.Done course.old course.new) }
     ensures err { OnErr result (course.new ≡ course.old) }
 {
     let reading = clock.read();
-    act(alloc, course, Event::Close { reading })?;
+    let ad = job_ad(alloc, file.program.as_str(), file.memory, reading)?;
+    let mut jobs = AdList::new(alloc);
+    jobs.push(ad)?;
+    act(alloc, course, Event::Submit { jobs, reading })?;
     Ok(())
 }
 
-// Runs the idle job, which asks for that many MiB, where it matches the slot.
+// Runs idle jobs that match a slot until there is none, and closes the pool.
 fn serve<R: Wait, C: Clock, P: Spawner>(
     rt: &R,
     alloc: Global,
     course: &mut Course,
     clock: &C,
     spawner: &mut P,
-    memory: u64,
 ) -> Result<(), Memory>
-    requires idle { IsIdle course.old.pool memory }
+    requires resting { IsResting course.old.pool }
     requires between { IsBetween (P.tells spawner.old) (P.launches spawner.old) course.old.list }
     ensures follows { (before : ℕ) → Follows (C.allows clock.now) (P.tells spawner.old) (P.launches spawner.old) (P.seen spawner.old) (P.killed spawner.old) before (P.faults spawner.old) course.old.list → Follows (C.allows clock.now) (P.tells spawner.old) (P.launches spawner.new) (P.seen spawner.new) (P.killed spawner.new) before (P.faults spawner.new) course.new.list }
     ensures between { OnOk result (IsBetween (P.tells spawner.old) (P.launches spawner.new) course.new.list) }
     ensures submits { submits course.new.list ≡ submits course.old.list }
-    ensures closable { OnOk result ((reading : ℕ) → refusal course.new.pool (Close reading) ≡ None) }
-    ensures open { course.new.pool.closed ≡ false }
+    ensures closed { IsTrue (is_ok result) ↔ (course.new.pool.closed ≡ true) }
     ensures opening { course.new.opening ≡ course.old.opening }
 {
-    let Some(judged) = MemoryMatch::judge(memory, course.pool().memory) else {
-        return Ok(());
-    };
-    run_job(rt, alloc, course, clock, spawner, judged)
+    'turns: loop {
+        let reading = clock.read();
+        match what_next(alloc, course.pool(), reading)? {
+            Next::Close { none } => {
+                close(alloc, course, reading, none)?;
+                return Ok(());
+            }
+            Next::Start { pair } => run_job(rt, alloc, course, clock, spawner, pair, reading)?,
+        }
+    }
 }
 
-// Starts the job, and waits until its run has ended.
+// What the pool does at a reading: it closes where no idle job matches a slot, and else starts the first that does.
+fn what_next(alloc: Global, pool: &Pool, reading: u64) -> Result<Next, Memory>
+    requires { IsResting pool.now }
+    ensures { IfOk result (λ next. refusal pool.now (event_of reading next) ≡ None) }
+{
+    let jobs = pool.idle_ads(alloc)?;
+    let slots = pool.slot_ads(alloc)?;
+    match none_match(alloc, &jobs, &slots, reading)? {
+        Ok(none) => Ok(Next::Close { none }),
+        Err((job, slot)) => Ok(Next::Start {
+            pair: pair_at(alloc, pool, job as usize, slot as usize, reading)?,
+        }),
+    }
+}
+
+// The idle job and the slot at these places, which match.
+fn pair_at(
+    alloc: Global,
+    pool: &Pool,
+    job: usize,
+    slot: usize,
+    reading: u64,
+) -> Result<Pair, Memory>
+    requires resting { IsResting pool.now }
+    requires first { IsFirstMatch (idle_ads pool.now.jobs) (slot_ads pool.now.slots) reading job slot }
+    ensures { IfOk result (λ pair. refusal pool.now (Start pair.job pair.slot pair.judged reading) ≡ None) }
+{
+    let Some((job, job_ad)) = pool.idle_job(job) else {
+        unreachable!();
+    };
+    let Some(slot) = slot_at(pool, slot) else {
+        unreachable!();
+    };
+    let Some(judged) = judge_uncounted::<Brand>(alloc, job_ad, &slot.ad, reading, Blank::new(1))?
+    else {
+        unreachable!();
+    };
+    Ok(Pair {
+        job,
+        slot: slot.slot,
+        judged,
+    })
+}
+
+// The slot at a place.
+fn slot_at(pool: &Pool, place: usize) -> Option<&SlotAd>
+    ensures { option_copied result ≡ slice_get pool.now.slots place }
+{
+    pool.slots().as_slice().get(place)
+}
+
+// Judges a job and a slot, and counts no steps.
+fn judge_uncounted<L: Ledger>(
+    alloc: Global,
+    job: &Ad,
+    slot: &Ad,
+    reading: u64,
+    blank: Blank,
+) -> Result<Option<Judged>, Memory>
+    requires name { blank.name ≡ L.name }
+    requires parts { blank.parts ≡ L.parts }
+    requires some { 0 < blank.parts }
+    ensures { IfOk result (λ o. MatchOption o (matches job.now slot.now reading ≡ false) (λ j. (j.job ≡ job.now) × (j.slot ≡ slot.now) × (j.at ≡ reading))) }
+{
+    let mut steps = Steps::<L>::new(blank);
+    judge(alloc, job, slot, reading, &mut steps)
+}
+
+fn close(alloc: Global, course: &mut Course, reading: u64, none: NoMatch) -> Result<(), Memory>
+    requires { refusal course.old.pool (Close reading none) ≡ None }
+    ensures list { OnOk result (course.new.list ≡ course.old.list ++ record { event = Close reading none; kept = kept.Done } ∷ []) }
+    ensures pool { OnOk result (course.new.pool ≡ after course.old.pool (Close reading none)) }
+    ensures opening { course.new.opening ≡ course.old.opening }
+    ensures err { OnErr result (course.new ≡ course.old) }
+{
+    act(alloc, course, Event::Close { reading, none })?;
+    Ok(())
+}
+
+// Starts a job at a reading, and waits until its run has ended.
 fn run_job<R: Wait, C: Clock, P: Spawner>(
     rt: &R,
     alloc: Global,
     course: &mut Course,
     clock: &C,
     spawner: &mut P,
-    judged: MemoryMatch,
+    pair: Pair,
+    reading: u64,
 ) -> Result<(), Memory>
-    requires accepted { (reading : ℕ) → refusal course.old.pool (Start judged reading) ≡ None }
+    requires resting { IsResting course.old.pool }
+    requires accepted { refusal course.old.pool (Start pair.job pair.slot pair.judged reading) ≡ None }
+    requires allowed { C.allows clock.now reading }
+    requires in_range { reading ≤ 253402207200 }
     requires between { IsBetween (P.tells spawner.old) (P.launches spawner.old) course.old.list }
     ensures follows { (before : ℕ) → Follows (C.allows clock.now) (P.tells spawner.old) (P.launches spawner.old) (P.seen spawner.old) (P.killed spawner.old) before (P.faults spawner.old) course.old.list → Follows (C.allows clock.now) (P.tells spawner.old) (P.launches spawner.new) (P.seen spawner.new) (P.killed spawner.new) before (P.faults spawner.new) course.new.list }
     ensures between { OnOk result (IsBetween (P.tells spawner.old) (P.launches spawner.new) course.new.list) }
     ensures submits { submits course.new.list ≡ submits course.old.list }
-    ensures closable { OnOk result ((reading : ℕ) → refusal course.new.pool (Close reading) ≡ None) }
+    ensures resting { OnOk result (IsResting course.new.pool) }
+    ensures fewer { OnOk result (idle_count course.new.pool < idle_count course.old.pool) }
     ensures open { course.new.pool.closed ≡ false }
     ensures opening { course.new.opening ≡ course.old.opening }
+    ensures told { P.tells spawner.new ≡ P.tells spawner.old }
 {
-    let what = start(alloc, course, clock, judged)?;
+    let job = pair.job;
+    let what = start(alloc, course, pair, reading)?;
     let end = run_child(rt, alloc, spawner, &what)?;
     let reading = clock.read();
-    act(alloc, course, Event::Ended { end, reading })?;
+    act(alloc, course, Event::Ended { job, end, reading })?;
     Ok(())
 }
 
-fn start<C: Clock>(
-    alloc: Global,
-    course: &mut Course,
-    clock: &C,
-    judged: MemoryMatch,
-) -> Result<Launch, Memory>
-    requires { (reading : ℕ) → refusal course.old.pool (Start judged reading) ≡ None }
-    ensures ok { IfOk result (λ what. Happens (C.allows clock.now) (Start judged) (kept.Launch what) course.old course.new) }
+fn start(alloc: Global, course: &mut Course, pair: Pair, reading: u64) -> Result<Launch, Memory>
+    requires { refusal course.old.pool (Start pair.job pair.slot pair.judged reading) ≡ None }
+    ensures list { IfOk result (λ what. course.new.list ≡ course.old.list ++ record { event = Start pair.job pair.slot pair.judged reading; kept = kept.Launch what } ∷ []) }
+    ensures pool { OnOk result (course.new.pool ≡ after course.old.pool (Start pair.job pair.slot pair.judged reading)) }
+    ensures opening { course.new.opening ≡ course.old.opening }
     ensures err { OnErr result (course.new ≡ course.old) }
 {
-    let reading = clock.read();
-    match act(alloc, course, Event::Start { judged, reading })? {
+    let Pair { job, slot, judged } = pair;
+    let event = Event::Start {
+        job,
+        slot,
+        judged,
+        reading,
+    };
+    match act(alloc, course, event)? {
         Answer::Launch { what } => Ok(what),
         Answer::Done => unreachable!(),
     }
@@ -174,6 +276,7 @@ fn run_child<R: Wait, P: Spawner>(
     ensures spared { P.tells spawner.old ≡ true → (k : ℕ) → P.killed spawner.new k ≡ P.killed spawner.old k }
     ensures not_started { IfOk result (λ end. end ≡ NotStarted → Rose (P.faults spawner.old) (P.faults spawner.new)) }
     ensures later { P.faults spawner.old ≤ P.faults spawner.new }
+    ensures told { P.tells spawner.new ≡ P.tells spawner.old }
 {
     let child = match spawner.launch(alloc, what) {
         Ok(child) => child,

@@ -1,4 +1,4 @@
-ghost use Rattle.std.specs.Prelude.{IsErrAnd, ◌≡◌, ◌≢◌, ◌≤◌, ◌⊎◌, ◌↔◌, ◌++◌, [], ℕ, List, Bool, true, false, None, Some, All, OnOk, OnErr, IfOk, IfErr, length, slice_get};
+ghost use Rattle.std.specs.Prelude.{IsErrAnd, ◌≡◌, ◌≢◌, ◌≤◌, ◌⊎◌, ◌↔◌, ◌++◌, ◌∷◌, [], ℕ, List, Bool, true, false, None, Some, All, OnOk, OnErr, IfOk, IfErr, length, slice_get};
 ghost use Rattle.pool_outer.specs.Cause.{Rose, RoseBy};
 ghost use Rattle.pool_outer.specs.Files.{SameFiles};
 ghost use Rattle.pool_core.specs.Events.{reading_of};
@@ -7,18 +7,21 @@ ghost use Rattle.pool_master.specs.declared.status.Kind.{Kind};
 ghost use Rattle.pool_master.specs.Words.{IsNoRun, IsRun, texts};
 ghost use Rattle.pool_master.specs.Input.{IsRefusedInput, IsRefusedOf, IsInputOf, IsEarly};
 ghost use Rattle.pool_master.specs.Runs.{IsLaunched, EndAsSeen, started_runs, launches_of, not_started_count};
-ghost use Rattle.pool_master.specs.Follows.{AreRead, Follows};
+ghost use Rattle.pool_master.specs.Follows.{AreRead, Follows, AreNumberedOnce};
+ghost use Rattle.pool_master.specs.Made.{machine_slot};
 ghost use Rattle.pool_master.specs.UserLog.{IsUserLog};
 ghost use Rattle.pool_master.specs.Run.{IsClosed, IsReplay, IsSafe, OfInputFrom, OfFilesFrom, OfJobFrom, WritesPart, WritesAll, PoolRuns, EndsEarly, HasNothing, IsStatusToday, IsLate, IsPrinted, job_left};
 
 use crate::form::{Config, SubmitFile};
 use crate::load::{load_config, load_submit};
+use crate::made::machine_slot;
 use crate::output::write_all;
 use crate::play::play;
 use crate::status::Status;
 use crate::user_log::log_text;
 use crate::words::{Named, named_by};
-use pool_core::{Course, Event, History, Job, Phase, Pool, StepList};
+use ad_value::Memory;
+use pool_core::{Course, Event, History, Pool, SlotAdList, StepList};
 use pool_outer::{Clock, Gate, Sink, Spawner, Store};
 use std::alloc::Global;
 use std::sync::Wait;
@@ -163,14 +166,30 @@ fn run_job<R: Wait, C: Clock, P: Spawner, K: Sink>(
     out: &mut K,
 ) -> (Status, History)
     requires idle { P.count spawner.old ≡ 0 }
+    requires machine_small { config.memory ≤ 1000000000 }
+    requires job_small { file.memory ≤ 1000000000 }
     ensures runs { PoolRuns (C.allows clock.now) (P.tells spawner.old) (P.launches spawner.new) (P.seen spawner.new) (P.killed spawner.new) (P.faults spawner.old) (P.faults spawner.new) (K.tells out.old) (K.written out.old) (K.written out.new) (K.faults out.old) (K.faults out.new) result.0 result.1 }
     ensures job { OfJobFrom config.name config.memory file.program file.memory result.1.opening result.1.list }
     ensures late { IsLate result.0 }
 {
-    match Course::open(alloc, config.name, config.memory) {
+    match open(alloc, &config) {
         Ok(course) => run_course(rt, alloc, course, file, clock, spawner, out),
         Err(_) => (Status::Memory, no_history(alloc)),
     }
+}
+
+// The pool of a machine.
+fn open(alloc: Global, config: &Config) -> Result<Course, Memory>
+    requires { config.now.memory ≤ 1000000000 }
+    ensures opening { IfOk result (λ c. c.opening ≡ opening_pool (machine_slot config.now.name config.now.memory ∷ [])) }
+    ensures list { IfOk result (λ c. c.list ≡ []) }
+    ensures pool { IfOk result (λ c. c.pool ≡ c.opening) }
+{
+    let slot = machine_slot(alloc, config.name.as_str(), config.memory)?;
+    let mut slots = SlotAdList::new(alloc);
+    slots.push(slot)?;
+    let course = Course::open(alloc, slots)?;
+    Ok(course)
 }
 
 // The run of a job on a pool to which nothing has happened.
@@ -185,10 +204,12 @@ fn run_course<R: Wait, C: Clock, P: Spawner, K: Sink>(
 ) -> (Status, History)
     requires idle { P.count spawner.old ≡ 0 }
     requires empty { course.list ≡ [] }
-    requires opening { course.opening ≡ opening_pool course.opening.name course.opening.memory }
+    requires opening { course.opening ≡ opening_pool course.opening.slots }
     requires opened { course.pool ≡ course.opening }
+    requires slots { AreNumberedOnce course.opening.slots }
+    requires small { file.memory ≤ 1000000000 }
     ensures runs { PoolRuns (C.allows clock.now) (P.tells spawner.old) (P.launches spawner.new) (P.seen spawner.new) (P.killed spawner.new) (P.faults spawner.old) (P.faults spawner.new) (K.tells out.old) (K.written out.old) (K.written out.new) (K.faults out.old) (K.faults out.new) result.0 result.1 }
-    ensures job { OfJobFrom course.opening.name course.opening.memory file.program file.memory result.1.opening result.1.list }
+    ensures job { (name : List ℕ) (memory : ℕ) → course.opening ≡ opening_pool (machine_slot name memory ∷ []) → OfJobFrom name memory file.program file.memory result.1.opening result.1.list }
     ensures late { IsLate result.0 }
 {
     let played = play(rt, alloc, &mut course, clock, spawner, &file);
@@ -220,6 +241,7 @@ fn load<D: Store>(
     ensures ok { D.tells store.old ≡ true → IfOk result (λ i. IsInputOf (D.file store.old) named.entry.config.now named.entry.submit.now i.0.name i.0.memory i.1.program i.1.memory) }
     ensures refused { D.tells store.old ≡ true → IfErr result (λ s. (name : List ℕ) (line : ℕ) (kind : Kind) → s ≡ Status.Input name line kind → IsRefusedOf (D.file store.old) named.entry.config.now named.entry.submit.now name line kind) }
     ensures refuses { D.tells store.old ≡ true → (name : List ℕ) (line : ℕ) (kind : Kind) → IsRefusedOf (D.file store.old) named.entry.config.now named.entry.submit.now name line kind → IsErrAnd result (λ s. (s ≡ Status.Input name line kind) ⊎ ((s ≡ Status.DiskFault) ⊎ (s ≡ Status.Memory))) }
+    ensures small { IfOk result (λ i. (i.0.memory ≤ 1000000000) × (i.1.memory ≤ 1000000000)) }
     ensures early { IfErr result IsEarly }
     ensures disk_fault { IfErr result (λ s. s ≡ Status.DiskFault → Rose (D.faults store.old) (D.faults store.new)) }
     ensures same { D.tells store.old ≡ true → SameFiles (D.file store.old) (D.file store.new) (D.solid store.old) (D.solid store.new) }
@@ -239,7 +261,7 @@ fn print<K: Sink>(alloc: Global, history: &History, pool: &Pool, out: &mut K) ->
     requires { All (λ s. reading_of s.event ≤ 253402207200) history.now.list }
     ensures written { K.tells out.old ≡ true → WritesPart history.now (K.written out.old) (K.written out.new) }
     ensures all_written { K.tells out.old ≡ true → (result ≡ Status.Done) ⊎ (result ≡ Status.Stuck) → WritesAll history.now (K.written out.old) (K.written out.new) }
-    ensures printed { IsPrinted (job_left pool.now.job) (K.faults out.old) (K.faults out.new) result }
+    ensures printed { IsPrinted (job_left pool.now) (K.faults out.old) (K.faults out.new) result }
     ensures later { K.faults out.old ≤ K.faults out.new }
 {
     let text = match log_text(alloc, history) {
@@ -247,19 +269,9 @@ fn print<K: Sink>(alloc: Global, history: &History, pool: &Pool, out: &mut K) ->
         Err(_) => return Status::Memory,
     };
     match write_all(out, text.as_str().as_bytes()) {
-        Ok(()) if is_left(&pool.job) => Status::Stuck,
+        Ok(()) if pool.has_unfinished() => Status::Stuck,
         Ok(()) => Status::Done,
         Err(_) => Status::OutFault,
-    }
-}
-
-// Whether a job is left in the queue.
-fn is_left(job: &Option<Job>) -> bool
-    ensures { result ≡ job_left job.now }
-{
-    match job {
-        None => false,
-        Some(job) => !matches!(job.phase, Phase::Finished { .. }),
     }
 }
 

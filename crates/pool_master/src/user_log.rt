@@ -1,108 +1,234 @@
-ghost use Rattle.std.specs.Prelude.{◌≡◌, ◌≤◌, ◌≢◌, List, ℕ, IfOk, All, codes, string_bytes};
+ghost use Rattle.std.specs.Prelude.{◌≡◌, ◌≤◌, ◌<◌, ◌^◌, ◌+◌, ◌++◌, List, ℕ, IfOk, All, length, codes, string_bytes};
 ghost use Rattle.pool_core.specs.Events.{reading_of};
-ghost use Rattle.pool_master.specs.UserLog.{IsStamp, IsEntry, IsLines, IsStartLines, IsEndLines, ArePrinted, IsUserLog, never_starts, submitted_text, held_text};
+ghost use Rattle.pool_core.specs.PoolValue.{slot_at};
+ghost use Rattle.pool_master.specs.UserLog.{IsStamp, IsEntry, AreEntries, IsSubmitLines, IsStartLines, IsEndLines, IsLines, ArePrinted, IsUserLog, never_starts, clusters_with, name_in, name_of, three_digits, numbers_text, submitted_text, held_text};
 
 use ad_value::{Memory, Text};
 use jiff::Timestamp;
 use jiff::tz::Offset;
-use pool_core::{End, Event, History, Step};
+use pool_core::{End, Event, History, JobId, SlotAd, SlotId, Step};
 use std::alloc::Global;
 
-const SUBMITTED: &str = "Job submitted from host: <pool>\n...\n1 job(s) submitted to cluster 1.\n";
+const SUBMITTED: &str = "Job submitted from host: <pool>\n...\n";
 
 const HELD: &str = "Job was held.\n\tFailed to start\n...\n";
 
-/// The user log of a history: its events 000, 001, 005 and 012, and the line of its submission.
+/// The user log of a history: its events 000, 001, 005 and 012, and the lines of its submissions.
 pub fn log_text(alloc: Global, history: &History) -> Result<Text, Memory>
     requires { All (λ s. reading_of s.event ≤ 253402207200) history.now.list }
     ensures { IfOk result (λ t. IsUserLog history.now t) }
 {
     let text = match &history.opening {
         None => String::new(alloc),
-        Some(pool) => printed(alloc, pool.name.as_str(), history.list.as_slice())?,
+        Some(pool) => printed(alloc, pool.slots().as_slice(), history.list.as_slice())?,
     };
     Ok(Text::from(text))
 }
 
-// What these events print, on a machine of that name.
-fn printed(alloc: Global, machine: &str, steps: &[Step]) -> Result<String, Memory>
+// What these events print, in a pool of these slots in which nothing was submitted before.
+fn printed(alloc: Global, slots: &[SlotAd], steps: &[Step]) -> Result<String, Memory>
     requires { All (λ s. reading_of s.event ≤ 253402207200) steps.now }
-    ensures { IfOk result (λ t. ArePrinted machine.now steps.now (string_bytes t)) }
+    ensures { IfOk result (λ t. ArePrinted slots.now 0 steps.now (string_bytes t)) }
 {
     let mut text = String::new(alloc);
+    let mut clusters = 0;
     let mut rest = steps;
-    'steps: while let Some((step, after)) = rest.split_first() {
-        let lines = lines(alloc, machine, never_starts(after), &step.event)?;
+    'steps: while let Some((step, behind)) = rest.split_first() {
+        let lines = lines(alloc, slots, clusters, behind, &step.event)?;
         text.push_str(lines.as_str())?;
-        rest = after;
+        clusters = clusters_with(clusters, &step.event);
+        rest = behind;
     }
     Ok(text)
 }
 
-// Whether the run that is on before these events ends as one that didn't start.
-fn never_starts(steps: &[Step]) -> bool
-    ensures { result ≡ never_starts steps.now }
+// How many clusters were submitted, with an event.
+fn clusters_with(clusters: usize, event: &Event) -> usize
+    requires { clusters + 1 < 2 ^ 64 }
+    ensures { result ≡ clusters_with clusters event.now }
+{
+    match event {
+        Event::Submit { jobs, .. } if !jobs.is_empty() => clusters + 1,
+        _ => clusters,
+    }
+}
+
+// Whether the run of the job that is on before these events ends as one that didn't start.
+fn never_starts(job: JobId, steps: &[Step]) -> bool
+    ensures { result ≡ never_starts job steps.now }
 {
     for step in steps {
-        if let Event::Ended { end, .. } = &step.event {
-            return matches!(end, End::NotStarted);
+        if let Event::Ended {
+            job: other,
+            end,
+            ..
+        } = &step.event
+        {
+            if job == *other {
+                return matches!(end, End::NotStarted);
+            }
         }
     }
     false
 }
 
-// What an event prints; the run that it starts may never start.
-fn lines(alloc: Global, machine: &str, never: bool, event: &Event) -> Result<String, Memory>
-    requires { reading_of event.now ≤ 253402207200 }
-    ensures { IfOk result (λ t. IsLines machine.now never event.now (string_bytes t)) }
+// What an event prints.
+fn lines(
+    alloc: Global,
+    slots: &[SlotAd],
+    clusters: usize,
+    behind: &[Step],
+    event: &Event,
+) -> Result<String, Memory>
+    requires in_range { reading_of event.now ≤ 253402207200 }
+    requires few { clusters + 1 < 2 ^ 64 }
+    ensures { IfOk result (λ t. IsLines slots.now clusters behind.now event.now (string_bytes t)) }
 {
     match event {
-        Event::Submit { reading, .. } => entry(alloc, "000", *reading, SUBMITTED),
-        Event::Start { reading, .. } => start_lines(alloc, machine, never, *reading),
-        Event::Ended { end, reading } => end_lines(alloc, end, *reading),
+        Event::Submit { jobs, reading } => {
+            submit_lines(alloc, clusters + 1, jobs.len(), *reading)
+        }
+        Event::Start {
+            job,
+            slot,
+            reading,
+            ..
+        } => {
+            let never = never_starts(*job, behind);
+            start_lines(alloc, never, *job, name_of(slots, *slot), *reading)
+        }
+        Event::Ended { job, end, reading } => end_lines(alloc, end, *job, *reading),
         Event::Close { .. } => Ok(String::new(alloc)),
     }
 }
 
-fn start_lines(alloc: Global, machine: &str, never: bool, reading: u64) -> Result<String, Memory>
+// The name of a slot.
+fn name_of(slots: &[SlotAd], id: SlotId) -> &str
+    ensures { result.now ≡ name_of slots.now id }
+{
+    for slot in slots {
+        if slot.slot == id {
+            return slot.name.as_str();
+        }
+    }
+    ""
+}
+
+fn submit_lines(alloc: Global, cluster: usize, count: usize, reading: u64) -> Result<String, Memory>
     requires { reading ≤ 253402207200 }
-    ensures { IfOk result (λ t. IsStartLines never machine.now reading (string_bytes t)) }
+    ensures { IfOk result (λ t. IsSubmitLines cluster count reading (string_bytes t)) }
+{
+    let entries = entries(alloc, cluster, count, reading)?;
+    Ok(format!(in alloc; "{entries}{count} job(s) submitted to cluster {cluster}.\n")?)
+}
+
+// The entries of so many jobs of a cluster.
+fn entries(alloc: Global, cluster: usize, count: usize, reading: u64) -> Result<String, Memory>
+    requires { reading ≤ 253402207200 }
+    ensures { IfOk result (λ t. AreEntries cluster 0 count reading (string_bytes t)) }
+{
+    let mut text = String::new(alloc);
+    'procs: for proc in 0..count {
+        let entry = entry(alloc, "000", cluster, proc, reading, SUBMITTED)?;
+        text.push_str(entry.as_str())?;
+    }
+    Ok(text)
+}
+
+fn start_lines(
+    alloc: Global,
+    never: bool,
+    job: JobId,
+    slot: &str,
+    reading: u64,
+) -> Result<String, Memory>
+    requires { reading ≤ 253402207200 }
+    ensures { IfOk result (λ t. IsStartLines never job slot.now reading (string_bytes t)) }
 {
     if never {
         return Ok(String::new(alloc));
     }
-    let said = format!(in alloc; "Job executing on host: <slot1@{machine}>\n...\n")?;
-    entry(alloc, "001", reading, said.as_str())
+    let said = format!(in alloc; "Job executing on host: <{slot}>\n...\n")?;
+    entry_of(alloc, "001", job, reading, said.as_str())
 }
 
-fn end_lines(alloc: Global, end: &End, reading: u64) -> Result<String, Memory>
+fn end_lines(alloc: Global, end: &End, job: JobId, reading: u64) -> Result<String, Memory>
     requires { reading ≤ 253402207200 }
-    ensures { IfOk result (λ t. IsEndLines end.now reading (string_bytes t)) }
+    ensures { IfOk result (λ t. IsEndLines end.now job reading (string_bytes t)) }
 {
     match end {
         End::Exited(code) => {
             let said = format!(in alloc;
                 "Job terminated.\n\t(1) Normal termination (return value {code})\n...\n"
             )?;
-            entry(alloc, "005", reading, said.as_str())
+            entry_of(alloc, "005", job, reading, said.as_str())
         }
         End::Signalled(signal) => {
             let said = format!(in alloc;
                 "Job terminated.\n\t(0) Abnormal termination (signal {signal})\n...\n"
             )?;
-            entry(alloc, "005", reading, said.as_str())
+            entry_of(alloc, "005", job, reading, said.as_str())
         }
-        End::NotStarted => entry(alloc, "012", reading, HELD),
+        End::NotStarted => entry_of(alloc, "012", job, reading, HELD),
     }
 }
 
-// An event of the log, of the job 1.0.
-fn entry(alloc: Global, number: &str, reading: u64, said: &str) -> Result<String, Memory>
+// An event of the log, of a job.
+fn entry_of(
+    alloc: Global,
+    number: &str,
+    job: JobId,
+    reading: u64,
+    said: &str,
+) -> Result<String, Memory>
     requires { reading ≤ 253402207200 }
-    ensures { IfOk result (λ t. IsEntry number.now reading said.now (string_bytes t)) }
+    ensures { IfOk result (λ t. IsEntry number.now job.cluster job.proc reading said.now (string_bytes t)) }
 {
+    entry(
+        alloc,
+        number,
+        job.cluster as usize,
+        job.proc as usize,
+        reading,
+        said,
+    )
+}
+
+fn entry(
+    alloc: Global,
+    number: &str,
+    cluster: usize,
+    proc: usize,
+    reading: u64,
+    said: &str,
+) -> Result<String, Memory>
+    requires { reading ≤ 253402207200 }
+    ensures { IfOk result (λ t. IsEntry number.now cluster proc reading said.now (string_bytes t)) }
+{
+    let numbers = numbers(alloc, cluster, proc)?;
     let stamp = stamp(alloc, reading)?;
-    Ok(format!(in alloc; "{number} (001.000.000) {stamp} {said}")?)
+    Ok(format!(in alloc; "{number} {numbers} {stamp} {said}")?)
+}
+
+// The numbers of a job.
+fn numbers(alloc: Global, cluster: usize, proc: usize) -> Result<String, Memory>
+    ensures { IfOk result (λ t. string_bytes t ≡ numbers_text cluster proc) }
+{
+    let cluster = three_digits(alloc, cluster)?;
+    let proc = three_digits(alloc, proc)?;
+    Ok(format!(in alloc; "({cluster}.{proc}.000)")?)
+}
+
+fn three_digits(alloc: Global, n: usize) -> Result<String, Memory>
+    ensures { IfOk result (λ t. string_bytes t ≡ three_digits n) }
+{
+    if n < 10 {
+        return Ok(format!(in alloc; "00{n}")?);
+    }
+    if n < 100 {
+        return Ok(format!(in alloc; "0{n}")?);
+    }
+    Ok(format!(in alloc; "{n}")?)
 }
 
 // The date and time of a reading, in UTC.

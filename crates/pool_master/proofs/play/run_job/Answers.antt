@@ -2,83 +2,79 @@
 use Rattle.std.proofs.Common.{◌∙◌, ap}
 use Rattle.pool_core.specs.CourseValue.{CourseValue}
 use Rattle.pool_master.proofs.Playing.{follows_launch, follows_refused, follows_ended, between_ended, start_on, start_launched, start_follows, start_submits, end_submits}
-use Rattle.pool_master.proofs.Pools.{ready, still_open, may_end, may_close, open_at_end}
+use Rattle.pool_master.proofs.Pools.{still_open, may_end, rests_again}
 use Rattle.pool_master.proofs.play.run_job.Goals as goal
 
 pub returns-in_err-what-clause-open : goal.returns-in_err-what-clause-open
-returns-in_err-what-clause-open g c = ap (λ (v : CourseValue). v.pool.closed) c.in_err-what.ensures.err ∙ (ready c.args.course.now.pool c.args.judged 0 (c.requires.accepted 0)).open_
+returns-in_err-what-clause-open g c = ap (λ (v : CourseValue). v.pool.closed) c.in_err-what.ensures.err ∙ c.requires.resting.is_open
 
 pub returns-in_err-end-clause-follows : goal.returns-in_err-end-clause-follows
 returns-in_err-end-clause-follows g c = λ before old.
-    let start = c.in_ok-what.ensures.ok in
+    let start = c.in_ok-what.ensures.list in
     let child = c.in_err-end.ensures in
     follows_refused _ _ (g.P.Spawner.count c.args.spawner.now) _ _ _ _ _ _ before _ _ c.start.new.course.list (g.met.P.Spawner.counted c.args.spawner.now) child.refused child.others child.spared child.later
-    (start_launched _ _ _ _ _ _ _ start c.requires.between)
-    (start_follows _ _ _ _ _ before _ _ _ _ _ start c.requires.between old)
+    (start_launched _ _ _ _ _ _ _ _ _ start c.requires.between)
+    (start_follows _ _ _ _ _ before _ _ _ _ _ _ _ _ start c.requires.allowed c.requires.in_range c.requires.between old)
 
 pub returns-in_err-end-clause-submits : goal.returns-in_err-end-clause-submits
-returns-in_err-end-clause-submits g c = start_submits _ _ _ _ _ c.in_ok-what.ensures.ok
+returns-in_err-end-clause-submits g c = start_submits _ _ _ _ _ _ _ c.in_ok-what.ensures.list
 
 pub returns-in_err-end-clause-open : goal.returns-in_err-end-clause-open
-returns-in_err-end-clause-open g c =
-    let start = c.in_ok-what.ensures.ok in
-    still_open c.args.course.now.pool c.start.new.course.pool c.args.judged start.reading (ready c.args.course.now.pool c.args.judged start.reading (c.requires.accepted start.reading)) start.pool
+returns-in_err-end-clause-open g c = still_open c.args.course.now.pool c.start.new.course.pool _ _ _ _ c.requires.resting c.in_ok-what.ensures.pool
 
 pub act-requires : goal.act-requires
-act-requires g c =
-    let start = c.in_ok-what.ensures.ok in
-    may_end c.args.course.now.pool c.start.new.course.pool c.args.judged start.reading (ready c.args.course.now.pool c.args.judged start.reading (c.requires.accepted start.reading)) start.pool c.in_ok-end.end c.read-reading.result
+act-requires g c = may_end c.args.course.now.pool c.start.new.course.pool _ _ _ _ c.requires.resting c.requires.accepted c.in_ok-what.ensures.pool c.in_ok-end.end c.read-reading.result
 
 pub returns-in_err-act-clause-follows : goal.returns-in_err-act-clause-follows
 returns-in_err-act-clause-follows g c = λ before old.
-    let start = c.in_ok-what.ensures.ok in
+    let start = c.in_ok-what.ensures.list in
     let child = c.in_ok-end.ensures in
     rw c.in_err-act.ensures.same
     (follows_launch _ _ c.in_ok-what.what c.in_ok-end.end (g.P.Spawner.count c.args.spawner.now) _ _ _ _ _ _ before _ _ c.start.new.course.list
     (record { counted = g.met.P.Spawner.counted c.args.spawner.now; launched = child.launched; looked = child.seen; others = child.others; spared = child.spared; not_started = child.not_started; later = child.later })
-    (start_on _ _ _ _ _ start)
-    (start_launched _ _ _ _ _ _ _ start c.requires.between)
-    (start_follows _ _ _ _ _ before _ _ _ _ _ start c.requires.between old))
+    (start_on _ _ _ _ _ _ _ start)
+    (start_launched _ _ _ _ _ _ _ _ _ start c.requires.between)
+    (start_follows _ _ _ _ _ before _ _ _ _ _ _ _ _ start c.requires.allowed c.requires.in_range c.requires.between old))
 
 pub returns-in_err-act-clause-submits : goal.returns-in_err-act-clause-submits
-returns-in_err-act-clause-submits g c = rw c.in_err-act.ensures.same (start_submits _ _ _ _ _ c.in_ok-what.ensures.ok)
+returns-in_err-act-clause-submits g c = rw c.in_err-act.ensures.same (start_submits _ _ _ _ _ _ _ c.in_ok-what.ensures.list)
 
 pub returns-in_err-act-clause-open : goal.returns-in_err-act-clause-open
-returns-in_err-act-clause-open g c =
-    let start = c.in_ok-what.ensures.ok in
-    rw c.in_err-act.ensures.same (still_open c.args.course.now.pool c.start.new.course.pool c.args.judged start.reading (ready c.args.course.now.pool c.args.judged start.reading (c.requires.accepted start.reading)) start.pool)
+returns-in_err-act-clause-open g c = rw c.in_err-act.ensures.same (still_open c.args.course.now.pool c.start.new.course.pool _ _ _ _ c.requires.resting c.in_ok-what.ensures.pool)
 
 pub returns-clause-follows : goal.returns-clause-follows
 returns-clause-follows g c = λ before old.
-    let start = c.in_ok-what.ensures.ok in
+    let start = c.in_ok-what.ensures.list in
     let child = c.in_ok-end.ensures in
     rw c.in_ok-act.ensures.list
-    (follows_ended _ _ c.in_ok-what.what c.in_ok-end.end (g.P.Spawner.count c.args.spawner.now) _ _ _ _ _ _ before _ _ c.start.new.course.list c.read-reading.result
+    (follows_ended _ _ c.in_ok-what.what c.in_ok-end.end (g.P.Spawner.count c.args.spawner.now) _ _ _ _ _ _ before _ _ c.start.new.course.list _ c.read-reading.result
     (record { counted = g.met.P.Spawner.counted c.args.spawner.now; launched = child.launched; looked = child.seen; others = child.others; spared = child.spared; not_started = child.not_started; later = child.later })
-    (start_on _ _ _ _ _ start)
-    (start_launched _ _ _ _ _ _ _ start c.requires.between)
+    (start_on _ _ _ _ _ _ _ start)
+    (start_launched _ _ _ _ _ _ _ _ _ start c.requires.between)
     c.read-reading.ensures.allowed c.read-reading.ensures.in_range
-    (start_follows _ _ _ _ _ before _ _ _ _ _ start c.requires.between old))
+    (start_follows _ _ _ _ _ before _ _ _ _ _ _ _ _ start c.requires.allowed c.requires.in_range c.requires.between old))
 
 pub returns-clause-between : goal.returns-clause-between
 returns-clause-between g c =
-    let start = c.in_ok-what.ensures.ok in
+    let start = c.in_ok-what.ensures.list in
     let child = c.in_ok-end.ensures in
     rw c.in_ok-act.ensures.list
-    (between_ended _ c.in_ok-what.what c.in_ok-end.end (g.P.Spawner.count c.args.spawner.now) _ _ _ _ _ _ _ _ c.start.new.course.list c.read-reading.result
+    (between_ended _ c.in_ok-what.what c.in_ok-end.end (g.P.Spawner.count c.args.spawner.now) _ _ _ _ _ _ _ _ c.start.new.course.list _ c.read-reading.result
     (record { counted = g.met.P.Spawner.counted c.args.spawner.now; launched = child.launched; looked = child.seen; others = child.others; spared = child.spared; not_started = child.not_started; later = child.later })
-    (start_on _ _ _ _ _ start)
-    (start_launched _ _ _ _ _ _ _ start c.requires.between))
+    (start_on _ _ _ _ _ _ _ start)
+    (start_launched _ _ _ _ _ _ _ _ _ start c.requires.between))
 
 pub returns-clause-submits : goal.returns-clause-submits
-returns-clause-submits g c = end_submits c.start.new.course.list c.act.new.course.list c.in_ok-end.end c.read-reading.result c.in_ok-act.ensures.list ∙ start_submits _ _ _ _ _ c.in_ok-what.ensures.ok
+returns-clause-submits g c = end_submits _ c.in_ok-end.end c.read-reading.result c.start.new.course.list c.act.new.course.list c.in_ok-act.ensures.list ∙ start_submits _ _ _ _ _ _ _ c.in_ok-what.ensures.list
 
-pub returns-clause-closable : goal.returns-clause-closable
-returns-clause-closable g c = λ reading.
-    let start = c.in_ok-what.ensures.ok in
-    may_close c.args.course.now.pool c.start.new.course.pool c.act.new.course.pool c.args.judged start.reading c.in_ok-end.end c.read-reading.result (ready c.args.course.now.pool c.args.judged start.reading (c.requires.accepted start.reading)) start.pool c.in_ok-act.ensures.pool reading
+pub returns-clause-resting : goal.returns-clause-resting
+returns-clause-resting g c =
+    (rests_again c.args.course.now.pool c.start.new.course.pool c.act.new.course.pool _ _ _ _ c.in_ok-end.end c.read-reading.result c.requires.resting c.requires.accepted c.in_ok-what.ensures.pool c.in_ok-act.ensures.pool).0
+
+pub returns-clause-fewer : goal.returns-clause-fewer
+returns-clause-fewer g c =
+    (rests_again c.args.course.now.pool c.start.new.course.pool c.act.new.course.pool _ _ _ _ c.in_ok-end.end c.read-reading.result c.requires.resting c.requires.accepted c.in_ok-what.ensures.pool c.in_ok-act.ensures.pool).1
 
 pub returns-clause-open : goal.returns-clause-open
 returns-clause-open g c =
-    let start = c.in_ok-what.ensures.ok in
-    open_at_end c.args.course.now.pool c.start.new.course.pool c.act.new.course.pool c.args.judged start.reading c.in_ok-end.end c.read-reading.result (ready c.args.course.now.pool c.args.judged start.reading (c.requires.accepted start.reading)) start.pool c.in_ok-act.ensures.pool
+    (rests_again c.args.course.now.pool c.start.new.course.pool c.act.new.course.pool _ _ _ _ c.in_ok-end.end c.read-reading.result c.requires.resting c.requires.accepted c.in_ok-what.ensures.pool c.in_ok-act.ensures.pool).0.is_open

@@ -1,14 +1,13 @@
-use Rattle.std.proofs.Common.{◌∙◌, ◌<◌, ap, rules, subst}
-use Rattle.pool_core.specs.declared.pool.Pool.{Pool}
-use Rattle.pool_master.proofs.Pools.{may_start, may_close_idle}
+use Rattle.std.proofs.Common.{◌∙◌}
+use Rattle.pool_master.proofs.Playing.{close_follows, close_between, close_submits}
 use Rattle.pool_master.proofs.play.serve.Goals as goal
 
-pub run_job-requires-clause-accepted : goal.run_job-requires-clause-accepted
-run_job-requires-clause-accepted g c =
-    let fits = c.in-Some.ensures in
-    may_start c.args.course.now.pool c.args.memory c.in-Some.judged c.requires.idle fits.0 (fits.1 ∙ ap (λ (p : Pool). p.memory) c.pool.ensures)
+pub returns-in-Close-clause-follows : goal.returns-in-Close-clause-follows
+returns-in-Close-clause-follows g c = λ before old.
+    close_follows _ _ _ _ _ before _ c.read-reading.result c.in-Close.none c.turns.course.list c.close.new.course.list c.in_ok-close-in-Close.ensures.list c.read-reading.ensures.allowed c.read-reading.ensures.in_range (c.turns.invariant.follows before old)
 
-pub returns-in_default-clause-closable : goal.returns-in_default-clause-closable
-returns-in_default-clause-closable g c = λ reading.
-    let large : c.pool.result.now.memory < c.args.memory = search rules in
-    may_close_idle c.args.course.now.pool c.args.memory c.requires.idle (subst (λ (p : Pool). p.memory < c.args.memory) c.pool.ensures large) reading
+pub returns-in-Close-clause-between : goal.returns-in-Close-clause-between
+returns-in-Close-clause-between g c = close_between _ _ c.read-reading.result c.in-Close.none c.turns.course.list c.close.new.course.list c.in_ok-close-in-Close.ensures.list c.turns.invariant.between
+
+pub returns-in-Close-clause-submits : goal.returns-in-Close-clause-submits
+returns-in-Close-clause-submits g c = close_submits c.read-reading.result c.in-Close.none c.turns.course.list c.close.new.course.list c.in_ok-close-in-Close.ensures.list ∙ c.turns.invariant.submits

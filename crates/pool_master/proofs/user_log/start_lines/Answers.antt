@@ -1,5 +1,4 @@
-use Rattle.std.proofs.Common.{rules}
 use Rattle.pool_master.proofs.user_log.start_lines.Goals as goal
 
 pub returns : goal.returns
-returns c = rw c.if-never.false (rw (c.as_str.ensures.value, c.in_ok-said.ensures.ok) at c.entry.ensures)
+returns c = rw c.if-never.false (rw (c.as_str.ensures.value, c.in_ok-said.ensures.ok) at c.entry_of.ensures)

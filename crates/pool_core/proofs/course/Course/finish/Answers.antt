@@ -1,5 +1,5 @@
 use Rattle.std.proofs.Common.{subst, sym}
-use Rattle.pool_core.specs.declared.pool.Pool.{Pool}
+use Rattle.pool_core.specs.PoolValue.{PoolValue}
 use Rattle.pool_core.specs.Histories.{LeadsTo}
 use Rattle.pool_core.specs.Moving.{EachMoves}
 use Rattle.pool_core.proofs.Moving.{history_moves}
@@ -10,12 +10,12 @@ pub returns-clause-safe : goal.returns-clause-safe
 returns-clause-safe c =
     let opening = c.self.inside.opening in
     let list = c.self.inside.steps.items in
-    let leads = subst (λ (p : Pool). LeadsTo p list c.self.inside.pool) c.self.invariant.0 c.self.invariant.1 in
-    rw (← c.self.view_is) (subst (λ (p : Pool). EachMoves p list) (sym c.self.invariant.0) (history_moves opening.name opening.memory list c.self.inside.pool leads))
+    let leads = subst (λ (p : PoolValue). LeadsTo p list c.self.inside.pool) c.self.invariant.0 c.self.invariant.1 in
+    rw (← c.self.view_is) (subst (λ (p : PoolValue). EachMoves p list) (sym c.self.invariant.0) (history_moves opening.slots list c.self.inside.pool leads))
 
 pub returns-clause-shows : goal.returns-clause-shows
 returns-clause-shows c =
     let opening = c.self.inside.opening in
     let list = c.self.inside.steps.items in
-    let leads = subst (λ (p : Pool). LeadsTo p list c.self.inside.pool) c.self.invariant.0 c.self.invariant.1 in
-    rw (← c.self.view_is) (shows opening.name opening.memory list c.self.inside.pool leads)
+    let leads = subst (λ (p : PoolValue). LeadsTo p list c.self.inside.pool) c.self.invariant.0 c.self.invariant.1 in
+    rw (← c.self.view_is) (shows opening.slots list c.self.inside.pool leads)

@@ -1,0 +1,76 @@
+-- What is seen of a pool.
+use Rattle.std.specs.Prelude.{◌≡◌, ℕ, ◌≤◌, Bool, true, false, List, [], ◌∷◌, length, count_by, not, Option, Some, None, IsSome, IsSomeAnd, IfSome, if◌then◌else◌}
+use Rattle.pool_core.specs.declared.numbers.JobId.{JobId}
+use Rattle.pool_core.specs.declared.numbers.SlotId.{SlotId}
+use Rattle.pool_core.specs.declared.job.Job.{Job}
+use Rattle.pool_core.specs.declared.job.Phase.{Phase}
+use Rattle.pool_core.specs.declared.job.Phase.TheVariants.{Idle, Running, Held, Finished}
+use Rattle.pool_core.specs.declared.job.Run.{Run}
+use Rattle.pool_core.specs.declared.slot.SlotAd.{SlotAd}
+use Rattle.pool_core.specs.Numbers.{same_job, same_slot}
+
+pub record PoolValue : Type 0 where
+  pub slots : List SlotAd
+  pub jobs : List (JobId × Job)  -- in the order in which they were submitted
+  pub runs : List (SlotId × Run)  -- of the slots that have one
+  pub clusters : ℕ  -- how many submissions had jobs
+  pub started : ℕ  -- how many runs were started
+  pub latest : ℕ  -- the greatest reading, 0 at first
+  pub closed : Bool
+
+abbrev pub pool_value : List SlotAd → List (JobId × Job) → List (SlotId × Run) → ℕ → ℕ → ℕ → Bool → PoolValue
+pool_value slots jobs runs clusters started latest closed = record { slots = slots; jobs = jobs; runs = runs; clusters = clusters; started = started; latest = latest; closed = closed }
+
+-- ---- finite maps as lists of pairs, of which the first with a key counts
+
+abbrev pub value_at : {K A : Type 0} → (K → K → Bool) → K → List (K × A) → Option A
+value_at same k [] = None
+value_at same k (e ∷ es) = if same k e.0 then Some e.1 else value_at same k es
+
+-- no key is met twice
+abbrev pub HasKeysOnce : {K A : Type 0} → (K → K → Bool) → List (K × A) → Type 0
+HasKeysOnce same [] = Unit {0}
+HasKeysOnce same (e ∷ es) = (value_at same e.0 es ≡ None) × HasKeysOnce same es
+
+abbrev pub job_at : JobId → List (JobId × Job) → Option Job
+job_at job jobs = value_at same_job job jobs
+
+abbrev pub run_at : SlotId → List (SlotId × Run) → Option Run
+run_at slot runs = value_at same_slot slot runs
+
+-- the first slot of that number
+abbrev pub slot_at : SlotId → List SlotAd → Option SlotAd
+slot_at id [] = None
+slot_at id (s ∷ ss) = if same_slot id s.slot then Some s else slot_at id ss
+
+-- ---- what always holds of a pool
+
+abbrev pub is_idle : Phase → Bool
+is_idle Idle = true
+is_idle (Running run until) = false
+is_idle (Held run) = false
+is_idle (Finished run end) = false
+
+abbrev pub has_started : JobId × Job → Bool
+has_started e = not (is_idle e.1.phase)
+
+-- the job's run is that of its slot
+abbrev pub HasItsRun : JobId → Phase → List (SlotId × Run) → Type 0
+HasItsRun job Idle runs = Unit {0}
+HasItsRun job (Running run until) runs = IsSomeAnd (run_at run.slot runs) (λ r. (r.job ≡ job) × (r.number ≡ run.number) × (r.until ≡ until))
+HasItsRun job (Held run) runs = Unit {0}
+HasItsRun job (Finished run end) runs = Unit {0}
+
+pub record IsConsistent (p : PoolValue) : Type 0 where
+  pub jobs_once : HasKeysOnce same_job p.jobs
+  pub runs_once : HasKeysOnce same_slot p.runs
+  -- a run's slot is one of the pool's
+  pub placed : (slot : SlotId) → IsSome (run_at slot p.runs) → IsSome (slot_at slot p.slots)
+  pub few : length p.jobs ≤ 10000
+  -- clusters are numbered from 1, in the order of their submission
+  pub clusters_few : p.clusters ≤ length p.jobs
+  pub numbered : (job : JobId) → IsSome (job_at job p.jobs) → job.cluster ≤ p.clusters
+  -- each job starts once at most
+  pub counted : p.started ≡ count_by has_started p.jobs
+  pub run_numbers : (slot : SlotId) → IfSome (run_at slot p.runs) (λ r. r.number ≤ p.started)
+  pub its_runs : (job : JobId) → IfSome (job_at job p.jobs) (λ j. HasItsRun job j.phase p.runs)

@@ -1,0 +1,89 @@
+ghost use Rattle.std.specs.Prelude.{◌≡◌};
+ghost use Rattle.pool_core.specs.PoolValue.{is_idle};
+ghost use Rattle.pool_core.specs.Reading.{is_finished};
+ghost use Rattle.pool_core.specs.Reactions.{run_in};
+
+use crate::event::End;
+use crate::numbers::{JobId, SlotId};
+use ad_eval::Judged;
+use ad_tree::Ad;
+use ad_value::{Copied, Memory};
+use std::alloc::Global;
+
+/// A run by its slot and its number in the pool, from 1 in the order of starts.
+#[derive(Clone, Copy, Debug, PartialEq, Eq)]
+pub struct RunName {
+    pub slot: SlotId,
+    pub number: u64,
+}
+
+/// How a job stands (HTCondor manual, Job ClassAd Attributes, JobStatus: Idle, Running, Held, Completed). A job that
+/// could not be started is held.
+#[derive(Clone, Copy, Debug)]
+pub enum Phase {
+    Idle,
+    /// `until` is the end of its lease, a reading.
+    Running { run: RunName, until: u64 },
+    Held { run: RunName },
+    Finished { run: RunName, end: End },
+}
+
+/// A job: its ad, as it was submitted, and how it stands.
+#[derive(Drop)]
+pub struct Job {
+    pub ad: Ad,
+    pub phase: Phase,
+}
+
+/// What a slot runs, by which match, and until when, a reading.
+#[derive(Drop)]
+pub struct Run {
+    pub job: JobId,
+    pub number: u64,
+    pub judged: Judged,
+    pub until: u64,
+}
+
+impl Phase {
+    pub fn is_idle(self) -> bool
+        ensures { result ≡ is_idle self }
+    {
+        matches!(self, Phase::Idle)
+    }
+
+    pub fn is_finished(self) -> bool
+        ensures { result ≡ is_finished self }
+    {
+        matches!(self, Phase::Finished { .. })
+    }
+
+    /// The run that the job has.
+    pub fn run(self) -> Option<RunName>
+        ensures { result ≡ run_in self }
+    {
+        match self {
+            Phase::Running { run, .. } => Some(run),
+            Phase::Idle | Phase::Held { .. } | Phase::Finished { .. } => None,
+        }
+    }
+}
+
+impl Copied for Job {
+    fn copy(&self, alloc: Global) -> Result<Job, Memory> {
+        Ok(Job {
+            ad: self.ad.copy(alloc)?,
+            phase: self.phase,
+        })
+    }
+}
+
+impl Copied for Run {
+    fn copy(&self, alloc: Global) -> Result<Run, Memory> {
+        Ok(Run {
+            job: self.job,
+            number: self.number,
+            judged: self.judged.copy(alloc)?,
+            until: self.until,
+        })
+    }
+}

@@ -1,0 +1,41 @@
+ghost use Rattle.std.specs.Prelude.{◌≡◌, ◌<◌, ◌++◌, ◌∷◌, [], None, IfOk};
+ghost use Rattle.indexmap.specs.IndexMap.{spare};
+ghost use Rattle.pool_core.specs.Reactions.{without_run};
+ghost use Rattle.pool_core.specs.PoolValue.{HasKeysOnce, run_at};
+ghost use Rattle.pool_core.specs.Numbers.{same_slot};
+
+use crate::job::Run;
+use crate::numbers::SlotId;
+use ad_value::{Copied, Memory};
+use indexmap::IndexMap;
+use std::alloc::Global;
+
+pub(crate) type RunTable = IndexMap<SlotId, Run>;
+
+// An equal table.
+pub(crate) fn copy_runs(alloc: Global, runs: &RunTable) -> Result<RunTable, Memory>
+    requires { HasKeysOnce same_slot runs.now.entries }
+    ensures { IfOk result (λ t. t.entries ≡ runs.now.entries) }
+{
+    let mut table = IndexMap::new(alloc);
+    for (slot, value) in runs {
+        table.insert(*slot, value.copy(alloc)?)?;
+    }
+    Ok(table)
+}
+
+// Adds the run of a slot that has none; there is room for it.
+pub(crate) fn add_run(runs: &mut RunTable, slot: SlotId, run: Run)
+    requires room { 0 < spare runs.old }
+    requires free { run_at slot runs.old.entries ≡ None }
+    ensures { runs.new.entries ≡ runs.old.entries ++ (slot, run) ∷ [] }
+{
+    runs.insert(slot, run).unwrap();
+}
+
+// Removes the run of a slot, where it has one.
+pub(crate) fn remove_run(runs: &mut RunTable, slot: SlotId)
+    ensures { runs.new.entries ≡ without_run slot runs.old.entries }
+{
+    runs.shift_remove(&slot);
+}

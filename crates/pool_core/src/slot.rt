@@ -1,0 +1,81 @@
+ghost use Rattle.std.specs.Prelude.{◌≡◌, ◌↔◌, IfOk, IsTrue};
+ghost use Rattle.std.specs.Option.{option_copied};
+ghost use Rattle.pool_core.specs.PoolValue.{slot_at};
+ghost use Rattle.pool_core.specs.Reactions.{first_slot, slot_ads};
+
+use crate::ads::after_first;
+use crate::numbers::SlotId;
+use ad_tree::{Ad, AdList};
+use ad_value::{Copied, Memory, Seq, Text};
+use std::alloc::Global;
+
+/// A slot with its name, as `slot1@m1` (HTCondor manual, Machine ClassAd Attributes, Name), and its ad, which never changes.
+#[derive(Drop)]
+pub struct SlotAd {
+    pub slot: SlotId,
+    pub name: Text,
+    pub ad: Ad,
+}
+
+/// A list of slots.
+pub type SlotAdList = Seq<SlotAd>;
+
+impl Copied for SlotAd {
+    fn copy(&self, alloc: Global) -> Result<SlotAd, Memory> {
+        Ok(SlotAd {
+            slot: self.slot,
+            name: self.name.copy(alloc)?,
+            ad: self.ad.copy(alloc)?,
+        })
+    }
+}
+
+// The first slot's number, or an impossible one.
+pub(crate) fn first_slot(slots: &[SlotAd]) -> SlotId
+    ensures { result ≡ first_slot slots.now }
+{
+    match slots.first() {
+        None => SlotId {
+            machine: 0,
+            slot: 0,
+        },
+        Some(first) => first.slot,
+    }
+}
+
+// The first slot of that number.
+pub(crate) fn slot_at(id: SlotId, slots: &[SlotAd]) -> Option<&SlotAd>
+    ensures { option_copied result ≡ slot_at id slots.now }
+{
+    for slot in slots {
+        if slot.slot == id {
+            return Some(slot);
+        }
+    }
+    None
+}
+
+// Copies of the slots' ads.
+pub(crate) fn slot_ads(alloc: Global, slots: &[SlotAd]) -> Result<AdList, Memory>
+    ensures { IfOk result (λ l. l ≡ slot_ads slots.now) }
+{
+    let mut ads = AdList::new(alloc);
+    for slot in slots {
+        ads.push(slot.ad.copy(alloc)?)?;
+    }
+    Ok(ads)
+}
+
+// Whether these are the slots' ads.
+pub(crate) fn are_slot_ads(ads: &[Ad], slots: &[SlotAd]) -> bool
+    ensures { IsTrue result ↔ (ads.now ≡ slot_ads slots.now) }
+{
+    let mut left = ads;
+    for slot in slots {
+        match after_first(left, &slot.ad) {
+            Some(rest) => left = rest,
+            None => return false,
+        }
+    }
+    left.is_empty()
+}
