@@ -11,12 +11,21 @@ use std::sync::ledger::Ledger;
 
 /// A job and a slot that were judged to match at a moment: only such a pair has one. Contracts see a `Judgement`, whose `fits` is
 /// the proof.
-#[derive(Drop)]
 pub struct Judged {
     job: Ad,
     slot: Ad,
     at: u64,
     ghost fits: { matches job slot at ≡ true },
+}
+
+impl Drop for Judged {
+    fn drop(self) {
+        let Judged {
+            job: _job,
+            slot: _slot,
+            at: _,
+        } = self;
+    }
 }
 
 impl Model for Judged {

@@ -9,12 +9,21 @@ use std::marker::Model;
 
 /// Jobs and slots of which no pair matches at a moment: only such lists have one. Contracts see a `Mismatch`, whose `unfit` is the
 /// proof.
-#[derive(Drop)]
 pub struct NoMatch {
     jobs: AdList,
     slots: AdList,
     at: u64,
     ghost unfit: { any_match jobs slots at ≡ false },
+}
+
+impl Drop for NoMatch {
+    fn drop(self) {
+        let NoMatch {
+            jobs: _jobs,
+            slots: _slots,
+            at: _,
+        } = self;
+    }
 }
 
 impl Model for NoMatch {

@@ -17,9 +17,16 @@ pub const MAX_ATTRIBUTES: usize = 256;
 
 /// An ad: attributes in the order in which their names came. Names are equal without ASCII case, and contracts see the list of
 /// names and expressions.
-#[derive(Drop)]
 pub struct Ad {
     attributes: IndexMap<Name, Expr>,
+}
+
+impl Drop for Ad {
+    fn drop(self) {
+        let Ad {
+            attributes: _attributes,
+        } = self;
+    }
 }
 
 /// A list of ads.

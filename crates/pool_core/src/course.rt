@@ -14,11 +14,20 @@ use std::alloc::Global;
 use std::marker::Model;
 
 /// A pool beside its history, which leads from the pool's opening to the pool.
-#[derive(Drop)]
 pub struct Course {
     opening: Pool,
     steps: Vec<Step>,
     pool: Pool,
+}
+
+impl Drop for Course {
+    fn drop(self) {
+        let Course {
+            opening: _opening,
+            steps: _steps,
+            pool: _pool,
+        } = self;
+    }
 }
 
 impl Model for Course {

@@ -14,7 +14,6 @@ pub enum End {
 }
 
 /// What happens in a pool. A reading is in seconds since 1970-01-01 00:00:00 UTC.
-#[derive(Drop)]
 pub enum Event {
     /// Jobs are submitted, as one cluster of the next number, where there are any; procs count from 0.
     Submit {
@@ -39,6 +38,32 @@ pub enum Event {
         reading: u64,
         none: NoMatch,
     },
+}
+
+impl Drop for Event {
+    fn drop(self) {
+        match self {
+            Event::Submit {
+                jobs: _jobs,
+                reading: _,
+            } => {}
+            Event::Start {
+                job: _,
+                slot: _,
+                judged: _judged,
+                reading: _,
+            } => {}
+            Event::Ended {
+                job: _,
+                end: _,
+                reading: _,
+            } => {}
+            Event::Close {
+                reading: _,
+                none: _none,
+            } => {}
+        }
+    }
 }
 
 impl Event {

@@ -26,7 +26,6 @@ use std::marker::Model;
 pub const MAX_JOBS: usize = 10_000;
 
 /// A pool of slots and jobs, which contracts see as a `PoolValue`.
-#[derive(Drop)]
 pub struct Pool {
     slots: SlotAdList,
     jobs: JobTable,
@@ -35,6 +34,20 @@ pub struct Pool {
     started: u64,
     latest: u64,
     closed: bool,
+}
+
+impl Drop for Pool {
+    fn drop(self) {
+        let Pool {
+            slots: _slots,
+            jobs: _jobs,
+            runs: _runs,
+            clusters: _,
+            started: _,
+            latest: _,
+            closed: _,
+        } = self;
+    }
 }
 
 impl Model for Pool {
