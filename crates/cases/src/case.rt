@@ -1,8 +1,11 @@
+ghost use Rattle.std.specs.Prelude.{IfErr};
+ghost use Rattle.cases.specs.Faults.{IsFieldsAt, IsEscapeAt, IsTextAt, IsNumberAt, IsMemory};
+
 use crate::error::CaseError;
 use crate::escapes::unescape;
 use std::alloc::Global;
 
-/// A line of cases: its kind, and the fields behind it.
+/// A line of cases: its kind, and the fields after it.
 #[derive(Clone, Copy, Debug)]
 pub struct Case<'a> {
     /// The number of its line, from 1.
@@ -14,7 +17,9 @@ pub struct Case<'a> {
 
 /// The cases of a text, in order, without its blank lines and those that begin with `#`.
 /// Computes in O(bytes).
-pub fn read_cases(alloc: Global, input: &str) -> Result<Vec<Case<'_>>, CaseError> {
+pub fn read_cases(alloc: Global, input: &str) -> Result<Vec<Case<'_>>, CaseError>
+    ensures { IfErr result IsMemory }
+{
     let mut cases = Vec::new(alloc);
     let mut line = 0u64;
     for text in input.lines() {
@@ -32,10 +37,7 @@ fn read_case(line: u64, text: &str) -> Case<'_> {
 }
 
 impl<'a> Case<'a> {
-    ghost use Rattle.std.specs.Prelude.{IfErr};
-    ghost use Rattle.cases.specs.Faults.{IsFieldsAt, IsEscapeAt, IsTextAt, IsNumberAt, IsMemory};
-
-    /// Its one field behind the kind.
+    /// Its one field after the kind.
     pub fn one_field(self) -> Result<&'a str, CaseError> {
         let mut fields = self.text.split('\t').skip(1);
         match (fields.next(), fields.next()) {
@@ -44,7 +46,7 @@ impl<'a> Case<'a> {
         }
     }
 
-    /// Its two fields behind the kind.
+    /// Its two fields after the kind.
     pub fn two_fields(self) -> Result<(&'a str, &'a str), CaseError>
         ensures { IfErr result (IsFieldsAt self.entry.line) }
     {
@@ -55,7 +57,7 @@ impl<'a> Case<'a> {
         }
     }
 
-    /// Its three fields behind the kind.
+    /// Its three fields after the kind.
     pub fn three_fields(self) -> Result<(&'a str, &'a str, &'a str), CaseError>
         ensures { IfErr result (IsFieldsAt self.entry.line) }
     {
@@ -66,7 +68,7 @@ impl<'a> Case<'a> {
         }
     }
 
-    /// Its four fields behind the kind.
+    /// Its four fields after the kind.
     pub fn four_fields(self) -> Result<(&'a str, &'a str, &'a str, &'a str), CaseError>
         ensures { IfErr result (IsFieldsAt self.entry.line) }
     {
@@ -85,7 +87,7 @@ impl<'a> Case<'a> {
         }
     }
 
-    /// Its fields behind the kind, however many. Where they are to be a given number, a caller
+    /// Its fields after the kind, however many. Where they are to be a given number, a caller
     /// matches the list, `let [first, second] = fields.as_slice() else ..`.
     pub fn all_fields(self, alloc: Global) -> Result<Vec<&'a str>, CaseError>
         ensures { IfErr result IsMemory }
