@@ -7,8 +7,6 @@ mod kinds;
 mod lists;
 mod numbers;
 mod table;
-#[cfg(test)]
-mod tests;
 mod texts;
 
 pub use function::each_is_named;

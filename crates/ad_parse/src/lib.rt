@@ -9,8 +9,6 @@ mod laws;
 mod levels;
 mod parse;
 mod print;
-#[cfg(test)]
-mod tests;
 
 pub use ad_text::parse_ad;
 pub use error::{AdError, ParseError};

@@ -7,8 +7,6 @@ mod marks;
 mod names;
 mod numbers;
 mod strings;
-#[cfg(test)]
-mod tests;
 mod token;
 
 pub use laws::{

@@ -4,8 +4,6 @@
 mod ad;
 mod name;
 mod operator;
-#[cfg(test)]
-mod tests;
 mod tree;
 
 pub use ad::{Ad, AdList, MAX_ATTRIBUTES, SetError};

@@ -5,8 +5,6 @@ mod literal;
 mod memory;
 mod order;
 mod seq;
-#[cfg(test)]
-mod tests;
 mod text;
 mod user_number;
 mod value;
