@@ -16,7 +16,7 @@ use std::alloc::{AllocError, AllocFailed, Global};
 use thiserror::Error;
 
 /// What a child is started with. An empty folder is the program's own, and an empty file name is `/dev/null`.
-#[derive(Debug, Drop)]
+#[derive(Debug)]
 pub struct Launch {
     pub program: Text,
     pub words: TextList,
@@ -24,6 +24,19 @@ pub struct Launch {
     pub input: Text,
     pub output: Text,
     pub errors: Text,
+}
+
+impl Drop for Launch {
+    fn drop(self) {
+        let Launch {
+            program: _program,
+            words: _words,
+            folder: _folder,
+            input: _input,
+            output: _output,
+            errors: _errors,
+        } = self;
+    }
 }
 
 impl Copied for Launch {

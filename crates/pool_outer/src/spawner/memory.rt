@@ -17,11 +17,21 @@ use std::alloc::Global;
 const SIGKILL: i32 = 9;
 
 /// What becomes of a program of that name: it runs on for so many looks, and the next one finds that ending.
-#[derive(Debug, Drop)]
+#[derive(Debug)]
 pub struct Script {
     pub program: Text,
     pub looks: u64,
     pub end: ChildEnd,
+}
+
+impl Drop for Script {
+    fn drop(self) {
+        let Script {
+            program: _program,
+            looks: _,
+            end: _,
+        } = self;
+    }
 }
 
 /// How a child ends: by an exit code or a signal's number.
@@ -111,12 +121,22 @@ fn child_for(scripts: &[Script], program: &str) -> MemChild
 
 /// Children in memory, which are started and looked at without fail. A program without a script exits with 0 at its first
 /// look, and a killed child that wasn't seen to end is ended by signal 9 at its next look.
-#[derive(Debug, Drop)]
+#[derive(Debug)]
 pub struct SureSpawner {
     scripts: Vec<Script>,
     launches: Vec<Launch>,
     children: Vec<MemChild>,
     ghost each_launched: { length launches.items ≡ length children.items },
+}
+
+impl Drop for SureSpawner {
+    fn drop(self) {
+        let SureSpawner {
+            scripts: _scripts,
+            launches: _launches,
+            children: _children,
+        } = self;
+    }
 }
 
 impl SureSpawner {
@@ -193,13 +213,25 @@ pub struct FailingSpawns {
 }
 
 /// A `SureSpawner` some of whose calls fail.
-#[derive(Debug, Drop)]
+#[derive(Debug)]
 pub struct MemSpawner {
     inner: SureSpawner,
     launches: FailingCalls,
     polls: FailingCalls,
     kills: FailingCalls,
     faults: u64,
+}
+
+impl Drop for MemSpawner {
+    fn drop(self) {
+        let MemSpawner {
+            inner: _inner,
+            launches: _launches,
+            polls: _polls,
+            kills: _kills,
+            faults: _,
+        } = self;
+    }
 }
 
 impl MemSpawner {

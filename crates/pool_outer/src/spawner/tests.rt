@@ -1,34 +1,42 @@
 use super::*;
-use std::path::{Path, PathBuf};
+use std::process::Abort;
 use std::rt::Clock;
 use std::test::Fail;
+use std::thread;
 use std::time::Duration;
-use std::{env, fs, process, thread};
 
-// The words are divided by bars.
-fn launch_of(alloc: Global, program: &str, words: &str) -> Result<Launch, Memory> {
-    let mut list = TextList::new(alloc);
-    if !words.is_empty() {
-        for word in words.split('|') {
-            list.push(Text::from_str(alloc, word)?)?;
-        }
-    }
-    Ok(Launch {
-        program: Text::from_str(alloc, program)?,
-        words: list,
+// What a child is started with; bars divide the words, and the files are its input, its output and its errors.
+#[derive(Clone, Copy)]
+struct Start<'a> {
+    program: &'a str,
+    words: &'a str,
+    folder: &'a str,
+    files: (&'a str, &'a str, &'a str),
+}
+
+// All of its texts are empty.
+fn empty_launch(alloc: Global) -> Launch {
+    Launch {
+        program: Text::new(alloc),
+        words: TextList::new(alloc),
         folder: Text::new(alloc),
         input: Text::new(alloc),
         output: Text::new(alloc),
         errors: Text::new(alloc),
-    })
+    }
 }
 
-fn script(alloc: Global, program: &str, looks: u64, end: ChildEnd) -> Result<Script, Memory> {
-    Ok(Script {
-        program: Text::from_str(alloc, program)?,
-        looks,
-        end,
-    })
+fn fill(alloc: Global, what: &mut Launch, start: Start) -> Result<(), Memory> {
+    let (input, output, errors) = start.files;
+    for word in start.words.split('|') {
+        what.words.push(Text::from_str(alloc, word)?)?;
+    }
+    what.program = Text::from_str(alloc, start.program)?;
+    what.folder = Text::from_str(alloc, start.folder)?;
+    what.input = Text::from_str(alloc, input)?;
+    what.output = Text::from_str(alloc, output)?;
+    what.errors = Text::from_str(alloc, errors)?;
+    Ok(())
 }
 
 // How a new child ends, and at which look, where it is killed before that one.
@@ -53,37 +61,78 @@ fn ending_of<P: Spawner>(
     Ok((5000, ChildState::Running))
 }
 
-fn scripts(alloc: Global) -> Result<Vec<Script>, Fail> {
-    let mut scripts = Vec::new(alloc);
-    for (program, looks, end) in [
-        ("two", 2, ChildEnd::Exited(3)),
-        ("two", 0, ChildEnd::Exited(4)),
-        ("signal", 1, ChildEnd::Signalled(11)),
-    ] {
-        scripts.push(script(alloc, program, looks, end)?)?;
-    }
-    Ok(scripts)
-}
-
-// How a new child of that program ends, and at which look, where it is killed before that one.
-fn ended<P: Spawner>(
+// How a new child ends, and at which look, where it is killed before that one.
+fn ending_from<P: Spawner>(
     rt: &impl Clock,
     alloc: Global,
     spawner: &mut P,
-    (program, words): (&str, &str),
+    start: Start,
     kill_before: Option<usize>,
 ) -> Result<(usize, ChildState), SpawnError> {
-    let what = match launch_of(alloc, program, words) {
-        Ok(what) => what,
-        Err(_) => return Err(SpawnError::Memory),
-    };
-    ending_of(rt, alloc, spawner, &what, kill_before)
+    let mut what = empty_launch(alloc);
+    match fill(alloc, &mut what, start) {
+        Ok(()) => ending_of(rt, alloc, spawner, &what, kill_before),
+        Err(_) => Err(SpawnError::Memory),
+    }
 }
 
-#[test]
-fn a_child_in_memory_ends_as_its_script_says(rt: HostRuntime) -> Result<(), Fail> {
-    let alloc = rt.alloc();
-    let mut spawner = SureSpawner::new(alloc, scripts(alloc)?);
+fn put_script(
+    alloc: Global,
+    scripts: &mut Vec<Script>,
+    program: &str,
+    looks: u64,
+    end: ChildEnd,
+) -> Result<(), Fail> {
+    let program = Text::from_str(alloc, program)?;
+    scripts.push(Script {
+        program,
+        looks,
+        end,
+    })?;
+    Ok(())
+}
+
+// Scripts, and numbers of calls that fail.
+fn prepare(
+    alloc: Global,
+    scripts: &mut Vec<Script>,
+    fails: &mut FailingSpawns,
+) -> Result<(), Fail> {
+    put_script(alloc, scripts, "two", 2, ChildEnd::Exited(3))?;
+    put_script(alloc, scripts, "two", 0, ChildEnd::Exited(4))?;
+    put_script(alloc, scripts, "signal", 1, ChildEnd::Signalled(11))?;
+    fails.launches.push(0)?;
+    fails.polls.push(1)?;
+    fails.kills.push(0)?;
+    Ok(())
+}
+
+fn prepared(alloc: Global) -> Result<MemSpawner, Fail> {
+    let mut scripts = Vec::new(alloc);
+    let mut fails = FailingSpawns {
+        launches: Vec::new(alloc),
+        polls: Vec::new(alloc),
+        kills: Vec::new(alloc),
+    };
+    prepare(alloc, &mut scripts, &mut fails)?;
+    Ok(MemSpawner::new(alloc, scripts, fails))
+}
+
+fn check_fails<P: Spawner>(rt: &impl Abort, alloc: Global, spawner: &mut P) -> Result<(), Fail> {
+    let what = empty_launch(alloc);
+    let failed = SpawnError::Failed;
+    assert_eq!(rt; spawner.launch(alloc, &what), Err(failed));
+    let child = spawner.launch(alloc, &what)?;
+    let ended = ChildState::Exited(0);
+    assert_eq!(rt; spawner.poll(child), Ok(ended));
+    assert_eq!(rt; spawner.poll(child), Err(failed));
+    assert_eq!(rt; spawner.poll(child), Ok(ended));
+    assert_eq!(rt; spawner.kill(child), Err(failed));
+    assert_eq!(rt; spawner.kill(child), Ok(()));
+    Ok(())
+}
+
+fn check_scripts<P: Spawner>(rt: &(impl Clock + Abort), alloc: Global, spawner: &mut P) {
     for (program, kill_before, look, state) in [
         ("two", None, 2, ChildState::Exited(3)),
         ("two", Some(1), 1, ChildState::Signalled(9)),
@@ -91,56 +140,44 @@ fn a_child_in_memory_ends_as_its_script_says(rt: HostRuntime) -> Result<(), Fail
         ("other", None, 0, ChildState::Exited(0)),
         ("other", Some(0), 0, ChildState::Signalled(9)),
     ] {
-        let got = ended(&rt, alloc, &mut spawner, (program, ""), kill_before);
+        let start = Start {
+            program,
+            words: "",
+            folder: "",
+            files: ("", "", ""),
+        };
+        let got = ending_from(rt, alloc, spawner, start, kill_before);
         assert_eq!(rt;
             got,
             Ok((look, state)),
             "{program}, killed before {kill_before:?}"
         );
     }
-    Ok(())
-}
-
-fn only(alloc: Global, call: u64) -> Result<Vec<u64>, Fail> {
-    Ok(vec![in alloc; call]?)
-}
-
-// A spawner of which the first launch, the second poll and the first kill fail.
-fn failing(alloc: Global) -> Result<MemSpawner, Fail> {
-    let launches = only(alloc, 0)?;
-    let polls = only(alloc, 1)?;
-    let kills = only(alloc, 0)?;
-    let fails = FailingSpawns {
-        launches,
-        polls,
-        kills,
-    };
-    Ok(MemSpawner::new(alloc, Vec::new(alloc), fails))
 }
 
 #[test]
-fn the_launches_polls_and_kills_of_the_lists_fail(rt: HostRuntime) -> Result<(), Fail> {
-    let alloc = rt.alloc();
-    let what = launch_of(alloc, "a", "")?;
-    let mut spawner = failing(alloc)?;
-    assert_eq!(rt; spawner.launch(alloc, &what), Err(SpawnError::Failed));
-    let child = spawner.launch(alloc, &what)?;
-    assert_eq!(rt; child, 0);
-    assert_eq!(rt; spawner.poll(child), Ok(ChildState::Exited(0)));
-    assert_eq!(rt; spawner.poll(child), Err(SpawnError::Failed));
-    assert_eq!(rt; spawner.poll(child), Ok(ChildState::Exited(0)));
-    assert_eq!(rt; spawner.kill(child), Err(SpawnError::Failed));
-    assert_eq!(rt; spawner.kill(child), Ok(()));
-    let launches = spawner.launches();
-    assert_eq!(rt; launches.len(), 1);
-    assert_eq!(rt; launches[0].program.as_str(), "a");
+fn children_in_memory_end_as_their_scripts_say(rt: HostRuntime) -> Result<(), Fail> {
+    let mut spawner = prepared(rt.alloc())?;
+    check_fails(&rt, rt.alloc(), &mut spawner)?;
+    check_scripts(&rt, rt.alloc(), &mut spawner);
     Ok(())
 }
 
-#[test]
-fn programs_of_the_system_end_as_they_do(rt: HostRuntime) {
-    let alloc = rt.alloc();
-    let mut spawner = ChildSpawner::new(alloc, &rt);
+// How a new child ends, where it is killed before that look.
+fn end_from<P: Spawner>(
+    rt: &impl Clock,
+    alloc: Global,
+    spawner: &mut P,
+    start: Start,
+    kill_before: Option<usize>,
+) -> Result<ChildState, SpawnError> {
+    match ending_from(rt, alloc, spawner, start, kill_before) {
+        Ok((_, state)) => Ok(state),
+        Err(error) => Err(error),
+    }
+}
+
+fn check_programs<P: Spawner>(rt: &(impl Clock + Abort), alloc: Global, spawner: &mut P) {
     for (program, words, kill_before, want) in [
         ("/bin/true", "", None, Ok(ChildState::Exited(0))),
         ("/bin/false", "", None, Ok(ChildState::Exited(1))),
@@ -159,70 +196,63 @@ fn programs_of_the_system_end_as_they_do(rt: HostRuntime) {
         ("/bin/sleep", "100", Some(0), Ok(ChildState::Signalled(9))),
         ("/no/such/program", "", None, Err(SpawnError::Failed)),
     ] {
-        let got = ended(&rt, alloc, &mut spawner, (program, words), kill_before);
-        assert_eq!(rt; got.map(|(_, state)| state), want, "{program} {words}");
+        let start = Start {
+            program,
+            words,
+            folder: "",
+            files: ("", "", ""),
+        };
+        let got = end_from(rt, alloc, spawner, start, kill_before);
+        assert_eq!(rt; got, want, "{program} {words}");
     }
 }
 
-// A shell's program in a folder, with the files that it reads and writes there.
-fn in_folder(alloc: Global, folder: &str, program: &str, errors: &str) -> Result<Launch, Memory> {
-    let mut what = launch_of(alloc, "/bin/sh", program)?;
-    what.folder = Text::from_str(alloc, folder)?;
-    what.input = Text::from_str(alloc, "in")?;
-    what.output = Text::from_str(alloc, "out")?;
-    what.errors = Text::from_str(alloc, errors)?;
-    Ok(what)
-}
-
-fn write(rt: &HostRuntime, folder: Path, name: &str, text: &str) -> Result<(), Fail> {
-    let path = folder.join(rt.alloc(), name)?;
-    fs::write(rt, path.as_path(), text)?;
-    Ok(())
-}
-
-fn content(rt: &HostRuntime, folder: Path, name: &str) -> Result<String, Fail> {
-    let path = folder.join(rt.alloc(), name)?;
-    Ok(fs::read_to_string(rt, path.as_path())?)
-}
-
-// A new folder with a file to be read, and one to be written.
-fn folder(rt: &HostRuntime) -> Result<PathBuf, Fail> {
-    let alloc = rt.alloc();
-    let id = process::id(rt.process());
-    let name = format!(in alloc; "pool_outer_{id}_spawner")?;
-    let folder = env::temp_dir(rt)?.join(alloc, name.as_str())?;
-    fs::create_dir(rt, folder.as_path())?;
-    write(rt, folder.as_path(), "in", "read")?;
-    write(rt, folder.as_path(), "out", "what stood there before")?;
-    Ok(folder)
-}
-
-// How a program ends that is run in the folder.
-fn run_in(rt: &HostRuntime, folder: Path, program: &str, errors: &str) -> Result<ChildState, Fail> {
-    let alloc = rt.alloc();
-    let what = in_folder(alloc, folder.as_str(), program, errors)?;
-    let mut spawner = ChildSpawner::new(alloc, rt);
-    let (_, state) = ending_of(rt, alloc, &mut spawner, &what, None)?;
-    Ok(state)
+// Each of these shells succeeds, in its folder and with these files for its input, output and errors.
+fn check_shells<P: Spawner>(rt: &(impl Clock + Abort), alloc: Global, spawner: &mut P) {
+    let folder = "pool_outer_folder";
+    for (folder, words, files) in [
+        (
+            "",
+            "-c|rm -rf pool_outer_folder; mkdir pool_outer_folder",
+            ("", "", ""),
+        ),
+        (
+            folder,
+            "-c|printf read > in; echo before > out",
+            ("", "", ""),
+        ),
+        (folder, "-c|cat; echo said >&2", ("in", "out", "err")),
+        (
+            folder,
+            "-c|test \"$(tr '\\n' , < out) $(tr '\\n' , < err)\" = 'read said,'",
+            ("", "", ""),
+        ),
+        (
+            folder,
+            "-c|echo one; echo two >&2; echo three",
+            ("", "out", "out"),
+        ),
+        (
+            folder,
+            "-c|test \"$(tr '\\n' , < out) $(tr '\\n' , < err)\" = 'one,two,three, said,'",
+            ("", "", ""),
+        ),
+        ("", "-c|rm -r pool_outer_folder", ("", "", "")),
+    ] {
+        let start = Start {
+            program: "/bin/sh",
+            words,
+            folder,
+            files,
+        };
+        let got = end_from(rt, alloc, spawner, start, None);
+        assert_eq!(rt; got, Ok(ChildState::Exited(0)), "{words}");
+    }
 }
 
 #[test]
-fn a_program_reads_and_writes_the_files_of_its_folder(rt: HostRuntime) -> Result<(), Fail> {
-    let folder = folder(&rt)?;
-    let path = folder.as_path();
-    for (program, errors, out, err) in [
-        ("-c|cat; echo said >&2", "err", "read", "said\n"),
-        (
-            "-c|echo one; echo two >&2; echo three",
-            "out",
-            "one\ntwo\nthree\n",
-            "said\n",
-        ),
-    ] {
-        assert_eq!(rt; run_in(&rt, path, program, errors)?, ChildState::Exited(0));
-        assert_eq!(rt; content(&rt, path, "out")?.as_str(), out, "{program}");
-        assert_eq!(rt; content(&rt, path, "err")?.as_str(), err, "{program}");
-    }
-    fs::remove_dir_all(&rt, path)?;
-    Ok(())
+fn programs_of_the_system_run_as_they_are_launched(rt: HostRuntime) {
+    let mut spawner = ChildSpawner::new(rt.alloc(), &rt);
+    check_programs(&rt, rt.alloc(), &mut spawner);
+    check_shells(&rt, rt.alloc(), &mut spawner);
 }

@@ -12,10 +12,19 @@ use ad_value::Text;
 use std::alloc::Global;
 
 /// A file in memory.
-#[derive(Debug, Drop)]
+#[derive(Debug)]
 pub struct MemFile {
     pub name: Text,
     pub bytes: Vec<u8>,
+}
+
+impl Drop for MemFile {
+    fn drop(self) {
+        let MemFile {
+            name: _name,
+            bytes: _bytes,
+        } = self;
+    }
 }
 
 /// Files in memory, which never fail and of which a stop leaves every byte. The first file of a name counts.
@@ -88,11 +97,21 @@ impl Store for SureStore {
 }
 
 /// A `SureStore` some of whose calls fail, by the numbers of all its calls from 0.
-#[derive(Debug, Drop)]
+#[derive(Debug)]
 pub struct MemStore {
     inner: SureStore,
     calls: FailingCalls,
     faults: u64,
+}
+
+impl Drop for MemStore {
+    fn drop(self) {
+        let MemStore {
+            inner: _inner,
+            calls: _calls,
+            faults: _,
+        } = self;
+    }
 }
 
 impl MemStore {

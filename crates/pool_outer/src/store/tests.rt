@@ -1,107 +1,95 @@
 use super::*;
 use ad_value::Text;
 use std::alloc::Global;
-use std::path::PathBuf;
+use std::fs;
+use std::process::Abort;
+use std::rt::Files;
 use std::test::Fail;
-use std::{env, fs, process};
 
-fn file(alloc: Global, name: &str, bytes: &str) -> Result<MemFile, Fail> {
-    let name = Text::from_str(alloc, name)?;
-    let bytes = bytes.as_bytes().to_vec(alloc)?;
-    Ok(MemFile { name, bytes })
-}
-
-fn files(alloc: Global, table: &[(&str, &str)]) -> Result<Vec<MemFile>, Fail> {
-    let mut files = Vec::new(alloc);
-    for (name, bytes) in table {
-        files.push(file(alloc, name, bytes)?)?;
-    }
-    Ok(files)
-}
-
-fn size_in<D: Store>(store: &mut D, alloc: Global, name: &str) -> Result<u64, StoreError> {
-    store.size(alloc, name)
-}
-
-// Whether one read of at most so many bytes gives these.
+// Whether one read of at most three bytes gives these.
 fn reads<D: Store>(
     store: &mut D,
     alloc: Global,
     name: &str,
-    (place, most): (u64, usize),
+    place: u64,
     want: &str,
 ) -> Result<bool, StoreError> {
-    let mut buffer = [0u8; 8];
-    let most = most.min(8);
-    let count = store.read_at(alloc, name, place, &mut buffer[..most])?;
+    let mut buffer = [0u8; 3];
+    let count = store.read_at(alloc, name, place, &mut buffer)?;
     Ok(&buffer[..count] == want.as_bytes())
 }
 
-#[test]
-fn the_first_file_of_a_name_is_read_in_pieces(rt: HostRuntime) -> Result<(), Fail> {
-    let alloc = rt.alloc();
-    let mut store = SureStore::new(files(alloc, &[("a", "hello"), ("b", ""), ("a", "other")])?);
-    assert_eq!(rt; size_in(&mut store, alloc, "a"), Ok(5));
-    assert_eq!(rt; size_in(&mut store, alloc, "b"), Ok(0));
-    assert_eq!(rt; size_in(&mut store, alloc, "c"), Err(StoreError::Missing));
-    for (name, place, most, want) in [
-        ("a", 0, 8, Ok("hello")),
-        ("a", 0, 2, Ok("he")),
-        ("a", 3, 8, Ok("lo")),
-        ("a", 5, 8, Ok("")),
-        ("a", u64::MAX, 8, Ok("")),
-        ("a", 0, 0, Ok("")),
-        ("b", 0, 8, Ok("")),
-        ("c", 0, 8, Err(StoreError::Missing)),
-    ] {
-        let got = reads(&mut store, alloc, name, (place, most), want.unwrap_or(""));
-        assert_eq!(rt;
-            got,
-            want.map(|_| true),
-            "{name} from {place}, at most {most}"
-        );
-    }
+// Asks for the size of a file, and then for at most three bytes of it from a place on.
+fn check<D: Store>(
+    rt: &impl Abort,
+    alloc: Global,
+    store: &mut D,
+    name: &str,
+    size: Result<u64, StoreError>,
+    (place, piece): (u64, Result<&str, StoreError>),
+) {
+    assert_eq!(rt; store.size(alloc, name), size, "{name}");
+    let (bytes, read) = match piece {
+        Ok(bytes) => (bytes, Ok(true)),
+        Err(error) => ("", Err(error)),
+    };
+    assert_eq!(rt;
+        reads(store, alloc, name, place, bytes),
+        read,
+        "{name} from {place}"
+    );
+}
+
+const MISSING: StoreError = StoreError::Missing;
+
+const FAILED: StoreError = StoreError::Failed;
+
+fn put_file(alloc: Global, files: &mut Vec<MemFile>) -> Result<(), Fail> {
+    files.push(MemFile {
+        name: Text::from_str(alloc, "a")?,
+        bytes: b"hello".to_vec(alloc)?,
+    })?;
+    Ok(())
+}
+
+// One file, and two calls that fail.
+fn prepare(alloc: Global, files: &mut Vec<MemFile>, fails: &mut Vec<u64>) -> Result<(), Fail> {
+    put_file(alloc, files)?;
+    fails.extend_from_slice(&[1, 2])?;
     Ok(())
 }
 
 #[test]
 fn the_calls_of_the_list_fail_and_no_other(rt: HostRuntime) -> Result<(), Fail> {
     let alloc = rt.alloc();
-    let failing = vec![in alloc; 1, 2]?;
-    let mut store = MemStore::new(files(alloc, &[("a", "hello")])?, failing);
-    let failed = Err(StoreError::Failed);
-    assert_eq!(rt; size_in(&mut store, alloc, "a"), Ok(5));
-    assert_eq!(rt; size_in(&mut store, alloc, "a"), Err(StoreError::Failed));
-    assert_eq!(rt; reads(&mut store, alloc, "a", (0, 8), ""), failed);
-    assert_eq!(rt; reads(&mut store, alloc, "a", (1, 3), "ell"), Ok(true));
-    assert_eq!(rt; size_in(&mut store, alloc, "b"), Err(StoreError::Missing));
+    let (mut files, mut fails) = (Vec::new(alloc), Vec::new(alloc));
+    prepare(alloc, &mut files, &mut fails)?;
+    let mut store = MemStore::new(files, fails);
+    check(&rt, alloc, &mut store, "a", Ok(5), (0, Err(FAILED)));
+    check(&rt, alloc, &mut store, "a", Err(FAILED), (1, Ok("ell")));
+    check(&rt, alloc, &mut store, "b", Err(MISSING), (0, Err(MISSING)));
     Ok(())
 }
 
-// A path in the system's folder for short-lived files.
-fn path_of(rt: &HostRuntime) -> Result<PathBuf, Fail> {
-    let alloc = rt.alloc();
-    let id = process::id(rt.process());
-    let name = format!(in alloc; "pool_outer_{id}_store")?;
-    Ok(env::temp_dir(rt)?.join(alloc, name.as_str())?)
+fn check_file<D: Store>(
+    rt: &(impl Files + Abort),
+    alloc: Global,
+    store: &mut D,
+) -> Result<(), Fail> {
+    let name = "pool_outer_file";
+    check(rt, alloc, store, name, Err(MISSING), (0, Err(MISSING)));
+    fs::write(rt, name, "hello")?;
+    check(rt, alloc, store, name, Ok(5), (1, Ok("ell")));
+    check(rt, alloc, store, name, Ok(5), (5, Ok("")));
+    fs::remove_file(rt, name)?;
+    check(rt, alloc, store, name, Err(FAILED), (0, Err(FAILED)));
+    let nowhere = "no such folder/file";
+    check(rt, alloc, store, nowhere, Err(MISSING), (0, Err(MISSING)));
+    Ok(())
 }
 
 #[test]
 fn a_file_of_the_system_that_vanished_has_failed(rt: HostRuntime) -> Result<(), Fail> {
-    let alloc = rt.alloc();
-    let path = path_of(&rt)?;
-    let path = path.as_str();
-    let mut store = DiskStore::new(alloc, &rt);
-    let (missing, failed) = (StoreError::Missing, StoreError::Failed);
-    assert_eq!(rt; size_in(&mut store, alloc, path), Err(missing));
-    fs::write(&rt, path, "hello")?;
-    assert_eq!(rt; size_in(&mut store, alloc, path), Ok(5));
-    assert_eq!(rt; reads(&mut store, alloc, path, (1, 3), "ell"), Ok(true));
-    assert_eq!(rt; reads(&mut store, alloc, path, (5, 3), ""), Ok(true));
-    fs::remove_file(&rt, path)?;
-    assert_eq!(rt; size_in(&mut store, alloc, path), Err(failed));
-    assert_eq!(rt; reads(&mut store, alloc, path, (0, 3), ""), Err(failed));
-    let nowhere = "/no such folder/file";
-    assert_eq!(rt; reads(&mut store, alloc, nowhere, (0, 3), ""), Err(missing));
-    Ok(())
+    let mut store = DiskStore::new(rt.alloc(), &rt);
+    check_file(&rt, rt.alloc(), &mut store)
 }
