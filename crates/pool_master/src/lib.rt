@@ -7,6 +7,7 @@ mod laws;
 mod load;
 mod made;
 mod output;
+mod pause;
 mod play;
 mod run;
 mod status;

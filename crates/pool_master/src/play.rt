@@ -16,6 +16,7 @@ ghost use Rattle.pool_master.specs.Run.{IsSubmitted};
 
 use crate::form::SubmitFile;
 use crate::made::job_ad;
+use crate::pause::Pause;
 use ad_eval::{Judged, NoMatch, Steps, judge, none_match};
 use ad_tree::{Ad, AdList};
 use ad_value::Memory;
@@ -262,7 +263,7 @@ fn act(alloc: Global, course: &mut Course, event: Event) -> Result<Answer, Memor
     }
 }
 
-// Launches a child, and looks until it has ended; a look that fails is made again.
+// Launches a child, and looks until it has ended, with pauses; a look that fails is made again.
 fn run_child<R: Wait, P: Spawner>(
     rt: &R,
     alloc: Global,
@@ -283,11 +284,12 @@ fn run_child<R: Wait, P: Spawner>(
         Err(SpawnError::Failed) => return Ok(End::NotStarted),
         Err(SpawnError::Memory) => return Err(Memory),
     };
+    let mut pause = Pause::new();
     'looks: for _ in rt.forever() {
         match spawner.poll(child) {
             Ok(ChildState::Exited(code)) => return Ok(End::Exited(code)),
             Ok(ChildState::Signalled(signal)) => return Ok(End::Signalled(signal)),
-            Ok(ChildState::Running) | Err(_) => {}
+            Ok(ChildState::Running) | Err(_) => pause.wait(rt),
         }
     }
     unreachable!()
