@@ -274,6 +274,3 @@ fn print<K: Sink>(alloc: Global, history: &History, pool: &Pool, out: &mut K) ->
         Err(_) => Status::OutFault,
     }
 }
-
-#[cfg(test)]
-mod tests;

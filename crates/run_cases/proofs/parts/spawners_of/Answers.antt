@@ -1,6 +1,6 @@
 use Rattle.std.proofs.Common.{◌≡◌, length, arith, length-append, ◌∷◌, []}
 use Rattle.std.proofs.lemmas.List.Elements.{All-push}
-use Rattle.pool_master.proofs.run.tests.spawners.Goals as goal
+use Rattle.run_cases.proofs.parts.spawners_of.Goals as goal
 
 pub machines-preserved : goal.machines-preserved
 machines-preserved c =
