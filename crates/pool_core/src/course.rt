@@ -1,4 +1,4 @@
-ghost use Rattle.std.specs.Prelude.{◌≡◌, ◌≢◌, [], ◌∷◌, ◌++◌, None, Some, IfOk, IfErr, OnErr, OnOk};
+ghost use Rattle.std.specs.Prelude.{◌≡◌, ◌≢◌, [], ◌∷◌, ◌++◌, None, Some, IfOk, IfErr, OnErr, OnOk, length};
 ghost use Rattle.pool_core.specs.Answers.{kept_of};
 ghost use Rattle.pool_core.specs.Reactions.{opening_pool, refusal, after, answer_to};
 ghost use Rattle.pool_core.specs.Histories.{IsHistory, Shows};
@@ -68,6 +68,13 @@ impl Course {
         ensures { result.now ≡ self.now.pool }
     {
         &self.pool
+    }
+
+    /// How many events were accepted, in constant time.
+    pub fn step_count(&self) -> usize
+        ensures { result ≡ length self.now.list }
+    {
+        self.steps.len()
     }
 
     /// One event. A refused one changes nothing. Costs as much as `Pool::step`, however long the history is, but that

@@ -29,19 +29,34 @@ pub enum Phase {
 }
 
 /// A job: its ad, as it was submitted, and how it stands.
-#[derive(Drop)]
 pub struct Job {
     pub ad: Ad,
     pub phase: Phase,
 }
 
+impl Drop for Job {
+    fn drop(self) {
+        let Job { ad: _ad, phase: _ } = self;
+    }
+}
+
 /// What a slot runs, by which match, and until when, a reading.
-#[derive(Drop)]
 pub struct Run {
     pub job: JobId,
     pub number: u64,
     pub judged: Judged,
     pub until: u64,
+}
+
+impl Drop for Run {
+    fn drop(self) {
+        let Run {
+            job: _,
+            number: _,
+            judged: _judged,
+            until: _,
+        } = self;
+    }
 }
 
 impl Phase {

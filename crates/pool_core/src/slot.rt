@@ -10,11 +10,20 @@ use ad_value::{Copied, Memory, Seq, Text};
 use std::alloc::Global;
 
 /// A slot with its name, as `slot1@m1` (HTCondor manual, Machine ClassAd Attributes, Name), and its ad, which never changes.
-#[derive(Drop)]
 pub struct SlotAd {
     pub slot: SlotId,
     pub name: Text,
     pub ad: Ad,
+}
+
+impl Drop for SlotAd {
+    fn drop(self) {
+        let SlotAd {
+            slot: _,
+            name: _name,
+            ad: _ad,
+        } = self;
+    }
 }
 
 /// A list of slots.
