@@ -28,6 +28,3 @@ pub use laws::{
 pub use numbers::{JobId, SlotId};
 pub use pool::{MAX_JOBS, Pool};
 pub use slot::{SlotAd, SlotAdList};
-
-#[cfg(test)]
-mod tests;

@@ -1,0 +1,81 @@
+use ad_tree::{Ad, AdList, Expr, Scope};
+use ad_value::{Copied, Memory, Text, Value};
+use pool_core::{Course, SlotAd, SlotAdList, SlotId};
+use std::alloc::Global;
+
+// What an attribute is set to.
+#[derive(Clone, Copy)]
+enum Given<'a> {
+    Said(&'a str),
+    Truth(bool),
+    Named(&'a str),
+}
+
+/// A pool of so many slots of machine 0, which start any job, or none. Without slots there is no
+/// pool.
+pub(crate) fn open_pool(alloc: Global, count: u16, start: bool) -> Result<Option<Course>, Memory> {
+    let slots = slots(alloc, count, start)?;
+    if slots.is_empty() {
+        return Ok(None);
+    }
+    Ok(Some(Course::open(alloc, slots)?))
+}
+
+fn slots(alloc: Global, count: u16, start: bool) -> Result<SlotAdList, Memory> {
+    let mut slots = SlotAdList::new(alloc);
+    for number in 0..count {
+        slots.push(slot(alloc, number + 1, start)?)?;
+    }
+    Ok(slots)
+}
+
+fn slot(alloc: Global, slot: u16, start: bool) -> Result<SlotAd, Memory> {
+    let rows = [
+        ("Start", Given::Truth(start)),
+        ("Requirements", Given::Named("Start")),
+    ];
+    Ok(SlotAd {
+        slot: SlotId { machine: 0, slot },
+        name: Text::from_str(alloc, "slot@m1")?,
+        ad: ad_of(alloc, &rows)?,
+    })
+}
+
+/// The ad of a job that runs a program.
+pub(crate) fn job_ad(alloc: Global, program: &str, requirements: bool) -> Result<Ad, Memory> {
+    let rows = [
+        ("Cmd", Given::Said(program)),
+        ("Requirements", Given::Truth(requirements)),
+    ];
+    ad_of(alloc, &rows)
+}
+
+/// The ads of so many equal jobs.
+pub(crate) fn job_ads(alloc: Global, count: u16, requirements: bool) -> Result<AdList, Memory> {
+    let mut ads = AdList::new(alloc);
+    for _ in 0..count {
+        ads.push(job_ad(alloc, "/bin/true", requirements)?)?;
+    }
+    Ok(ads)
+}
+
+fn ad_of(alloc: Global, rows: &[(&str, Given<'_>)]) -> Result<Ad, Memory> {
+    let mut ad = Ad::new(alloc);
+    for (name, given) in rows {
+        if ad.set(alloc, name, expr_of(alloc, *given)?).is_err() {
+            return Err(Memory);
+        }
+    }
+    Ok(ad)
+}
+
+fn expr_of(alloc: Global, given: Given<'_>) -> Result<Expr, Memory> {
+    match given {
+        Given::Said(text) => Ok(Expr::Lit(Value::Str(Text::from_str(alloc, text)?))),
+        Given::Truth(truth) => Ok(Expr::Lit(Value::Bool(truth))),
+        Given::Named(name) => Ok(Expr::Ref {
+            scope: Scope::Bare,
+            name: Text::from_str(alloc, name)?,
+        }),
+    }
+}
