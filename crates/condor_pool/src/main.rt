@@ -4,13 +4,15 @@
 ghost use Rattle.std.specs.Prelude.{◌≡◌, All, IfOk, length};
 
 use clap::{Arg, Command};
-use pool_master::{Ran, run_pool};
-use pool_outer::{ChildSpawner, DiskStore, OpenGate, StdSink, SystemClock};
+use pool_master::{Ran, Status, run_pool};
+use pool_outer::{ChildSpawner, DiskStore, OpenGate, Spawner, StdSink, SystemClock};
 use std::alloc::{AllocError, Global};
 use std::fs::File;
 use std::process::{ExitCode, Processes, id};
 use std::random::RandomSource;
 use std::rt::{Clock, Files};
+use std::sync::Wait;
+use std::thread::Threads;
 use std::{env, io};
 
 const VERSION: &str = "0.1.0";
@@ -18,16 +20,39 @@ const VERSION: &str = "0.1.0";
 /// How many machines a pool may have; machine m launches on spawner m.
 const MACHINES: usize = 64;
 
+/// What a lone word may ask for.
+#[derive(Clone, Copy)]
+enum Question {
+    Help,
+    Version,
+}
+
 fn main(rt: HostRuntime) -> io::Result<ExitCode> {
     let alloc = rt.alloc();
     let words = words(&rt)?;
-    if let Some(text) = told(alloc, words.as_slice())? {
-        print!(rt; "{text}")?;
-        return Ok(ExitCode::SUCCESS);
+    match lone_question(words.as_slice()) {
+        Some(question) => answer(&rt, alloc, question),
+        None => run(&rt, &rt, alloc, words.as_slice()),
     }
-    let clock = SystemClock::new(&rt);
-    let spawners = idle_spawners(alloc, &rt)?;
-    let mut out = StdSink::new(io::writer(&rt));
+}
+
+// Prints what a lone word asks for.
+fn answer(rt: &impl Print, alloc: Global, question: Question) -> io::Result<ExitCode> {
+    let text = text_of(alloc, question)?;
+    print!(rt; "{text}")?;
+    Ok(ExitCode::SUCCESS)
+}
+
+// Runs a pool on the system's parts, and says how it ended. The first handle may wait.
+fn run<R: Threads + Wait + Sync + Clock>(
+    rt: &R,
+    system: &HostRuntime,
+    alloc: Global,
+    words: &[String],
+) -> io::Result<ExitCode> {
+    let spawners = idle_spawners(alloc, system)?;
+    let clock = SystemClock::new(system);
+    let mut out = StdSink::new(io::writer(system));
     let Ran {
         status,
         store: _,
@@ -35,63 +60,74 @@ fn main(rt: HostRuntime) -> io::Result<ExitCode> {
         history: _,
         refused: _,
     } = run_pool(
-        &rt,
+        rt,
         alloc,
-        words.as_slice(),
-        DiskStore::new(alloc, &rt),
+        words,
+        DiskStore::new(alloc, system),
         &clock,
         spawners,
         &OpenGate,
-        secret_key(&rt),
+        secret_key(system),
         &mut out,
     );
+    print_line(system, alloc, &status);
+    Ok(ExitCode::from(status.number()))
+}
+
+// Prints the line of a status; one that cannot be made or printed leaves the status as it is.
+fn print_line(rt: &impl Eprint, alloc: Global, status: &Status) {
     if let Ok(line) = status.line(alloc)
         && !line.is_empty()
     {
-        // A line that cannot be printed leaves the status as it is.
         let _ = eprintln!(rt; "{line}");
     }
-    Ok(ExitCode::from(status.number()))
 }
 
 // The command's words.
 fn words(rt: &HostRuntime) -> io::Result<Vec<String>> {
-    let mut words = Vec::new(rt.alloc());
-    for word in env::args(rt)?.skip(1) {
-        words.push(word)?;
-    }
+    let words = env::args(rt)?.skip(1).collect(rt.alloc())?;
     Ok(words)
 }
 
-// What the words `--help` or `-h`, and `--version` or `-V`, ask for where they stand alone.
-fn told(alloc: Global, words: &[String]) -> Result<Option<String>, AllocError> {
+// What the words ask for, where there is one word and it asks.
+fn lone_question(words: &[String]) -> Option<Question> {
     let [word] = words else {
-        return Ok(None);
+        return None;
     };
     match word.as_str() {
-        "--help" | "-h" => Ok(Some(command(alloc)?.render_help()?)),
-        "--version" | "-V" => Ok(Some(command(alloc)?.render_version()?)),
-        _ => Ok(None),
+        "--help" | "-h" => Some(Question::Help),
+        "--version" | "-V" => Some(Question::Version),
+        _ => None,
+    }
+}
+
+fn text_of(alloc: Global, question: Question) -> Result<String, AllocError> {
+    let mut command = command(alloc)?;
+    match question {
+        Question::Help => command.render_help(),
+        Question::Version => command.render_version(),
     }
 }
 
 fn command(alloc: Global) -> Result<Command<'static>, AllocError> {
-    let config = Arg::new(alloc, "CONFIG")
-        .required(true)
-        .help("the pool's configuration");
-    let submit = Arg::new(alloc, "SUBMIT")
-        .required(true)
-        .help("the submit file of its job");
-    let run = Command::new(alloc, "run")
-        .about("Runs a pool until nothing is left to do, and prints its user log")
-        .arg(config)?
-        .arg(submit)?;
+    let run = run_command(alloc)?;
     Command::new(alloc, "condor_pool")
         .version(VERSION)
         .about("An HTCondor pool in one process")
         .override_usage("condor_pool run CONFIG SUBMIT")
         .disable_help_subcommand(true)
         .subcommand(run)
+}
+
+fn run_command(alloc: Global) -> Result<Command<'static>, AllocError> {
+    Command::new(alloc, "run")
+        .about("Runs a pool until nothing is left to do, and prints its user log")
+        .arg(file_argument(alloc, "CONFIG", "the pool's configuration"))?
+        .arg(file_argument(alloc, "SUBMIT", "the submit file of its job"))
+}
+
+fn file_argument(alloc: Global, name: &'static str, help: &'static str) -> Arg<'static> {
+    Arg::new(alloc, name).required(true).help(help)
 }
 
 // The key of the claims' secrets: random, or else of this moment and process.
@@ -116,7 +152,8 @@ fn idle_spawners<R: Processes + Files<File = File> + Drop + Copy>(
     rt: R,
 ) -> Result<Vec<ChildSpawner<R>>, AllocError>
     ensures machines { IfOk result (λ spawners. length spawners.items ≡ MACHINES) }
-    ensures idle { IfOk result (λ spawners. All (λ s. ⟦<ChildSpawner<R> as pool_outer::Spawner>⟧.count s ≡ 0) spawners.items) }
+    ensures idle { IfOk result
+        (λ spawners. All (λ s. ⟦<ChildSpawner<R> as Spawner>⟧.count s ≡ 0) spawners.items) }
 {
     let mut spawners = Vec::new(alloc);
     'machines: for _machine in 0..MACHINES {

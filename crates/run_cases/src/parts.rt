@@ -58,7 +58,8 @@ pub(crate) fn sink_of(alloc: Global, run: &RunCase<'_>) -> Result<MemSink, CaseE
 /// A spawner for each machine.
 pub(crate) fn spawners_of(alloc: Global, run: &RunCase<'_>) -> Result<Vec<MemSpawner>, CaseError>
     ensures machines { IfOk result (λ spawners. length spawners.items ≡ MACHINES) }
-    ensures idle { IfOk result (λ spawners. All (λ s. ⟦<MemSpawner as Spawner>⟧.count s ≡ 0) spawners.items) }
+    ensures idle { IfOk result
+        (λ spawners. All (λ s. ⟦<MemSpawner as Spawner>⟧.count s ≡ 0) spawners.items) }
 {
     let mut spawners = Vec::new(alloc);
     'machines: for _machine in 0..MACHINES {
