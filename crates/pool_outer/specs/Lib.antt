@@ -4,4 +4,6 @@ pub mod Children
 pub mod MemoryFiles
 pub mod MemoryClock
 pub mod MemoryChildren
-pub mod Prepared
+pub mod MemoryCalls
+pub mod MemoryParts
+pub mod MemorySpawners

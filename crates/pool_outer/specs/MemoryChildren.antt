@@ -1,5 +1,5 @@
 -- Child programs in memory.
-use Rattle.std.specs.Prelude.{◌≡◌, ◌≤◌, ℕ, Bool, false, List, length, pos, MatchOption, slice_get, find, refl}
+use Rattle.std.specs.Prelude.{◌≡◌, ◌≢◌, ◌≤◌, ◌<◌, ◌-◌, ℕ, Bool, true, false, List, length, pos, slice_get, find, unwrap_or, refl}
 use Rattle.std.specs.Option.{option_map_or}
 use Rattle.std.specs.Str.{bytes_eq}
 use Rattle.std.proofs.lemmas.Option.{slice_get_past}
@@ -9,6 +9,7 @@ use Rattle.pool_outer.specs.declared.spawner.memory.ChildEnd.{ChildEnd}
 use Rattle.pool_outer.specs.declared.spawner.memory.ChildEnd.TheVariants as end
 use Rattle.pool_outer.specs.declared.spawner.memory.MemChild.{MemChild}
 use Rattle.pool_outer.specs.declared.spawner.memory.Script.{Script}
+use Rattle.pool_outer.specs.declared.spawner.memory.TheConstants.{SIGKILL}
 
 -- an ending, as a look finds it
 abbrev pub state_of : ChildEnd → ChildState
@@ -23,16 +24,49 @@ last_seen children k = option_map_or (λ child. child.state) (slice_get children
 abbrev pub is_killed : List MemChild → ℕ → Bool
 is_killed children k = option_map_or (λ child. child.killed) (slice_get children k) false
 
--- a child runs on for so many looks and then has that ending
-pub record WillEnd (child : MemChild) (looks : ℕ) (end : ChildEnd) : Type 0 where
-  pub looks_left : child.looks ≡ looks
-  pub ending : child.end ≡ end
+-- a child as it starts, which runs on for so many looks and then has that ending
+abbrev pub new_child : ℕ → ChildEnd → MemChild
+new_child looks ending = record { state = Running; looks = looks; end = ending; killed = false }
 
--- a program behaves as its first script says; one without exits with 0 at its first look
-abbrev pub Follows : List Script → List ℕ → MemChild → Type 0
-Follows scripts program child =
-    MatchOption (find (λ script. bytes_eq script.program program) scripts) (WillEnd child 0 (end.Exited (pos 0))) (λ script. WillEnd child script.looks script.end)
+-- the child of a program, by its first script; one without exits with 0 at its first look
+abbrev pub child_of : List Script → List ℕ → MemChild
+child_of scripts program =
+    option_map_or (λ script. new_child script.looks script.end)
+    (find (λ script. bytes_eq script.program program) scripts)
+    (new_child 0 (end.Exited (pos 0)))
+
+-- the child of that number
+abbrev pub child_at : List MemChild → ℕ → MemChild
+child_at children k = unwrap_or (slice_get children k) (new_child 0 (end.Exited (pos 0)))
+
+-- What a look does to a child: one that was seen to end stays as it is, a killed one has ended by the signal, and another
+-- runs on for one look less, or has its ending where none is left.
+pub record Looks (old new : MemChild) : Type 0 where
+  pub ended : old.state ≢ Running → new ≡ old
+  pub killed : old.state ≡ Running → old.killed ≡ true → new.state ≡ Signalled SIGKILL
+  pub ends :
+      old.state ≡ Running → old.killed ≡ false → old.looks ≡ 0 → new.state ≡ state_of old.end
+  pub runs :
+      old.state ≡ Running → old.killed ≡ false → 0 < old.looks
+      → new ≡ record old { looks = old.looks - 1 }
+  pub spared : new.killed ≡ old.killed
+
+-- a look at the child of that number, and at no other
+pub record LooksAt (child : ℕ) (old new : List MemChild) : Type 0 where
+  pub look : Looks (child_at old child) (child_at new child)
+  pub others : (k : ℕ) → k ≢ child → child_at new k ≡ child_at old k
+  pub spared : (k : ℕ) → is_killed new k ≡ is_killed old k
+  pub count : length new ≡ length old
+
+-- the child of that number, and no other, is to be killed
+pub record KillsAt (child : ℕ) (old new : List MemChild) : Type 0 where
+  pub kill : child_at new child ≡ record (child_at old child) { killed = true }
+  pub others : (k : ℕ) → k ≢ child → child_at new k ≡ child_at old k
+  pub seen : (k : ℕ) → last_seen new k ≡ last_seen old k
+  pub count : length new ≡ length old
 
 -- a child that isn't there is running, and nobody killed it
-pub unborn : (children : List MemChild) (k : ℕ) → length children ≤ k → (last_seen children k ≡ Running) × (is_killed children k ≡ false)
+pub unborn :
+    (children : List MemChild) (k : ℕ) → length children ≤ k
+    → (last_seen children k ≡ Running) × (is_killed children k ≡ false)
 unborn children k past = (rw (slice_get_past children k past) refl, rw (slice_get_past children k past) refl)

@@ -1,4 +1,5 @@
-ghost use Rattle.std.specs.Prelude.{◌≡◌, ◌+◌, ◌-◌, ◌^◌, ◌↔◌, IsTrue, Contains, min};
+ghost use Rattle.std.specs.Prelude.{◌≡◌, ◌↔◌, IsTrue};
+ghost use Rattle.pool_outer.specs.MemoryCalls.{NextFails, one_more};
 
 /// Calls of which some fail, by their numbers from 0.
 #[derive(Debug, Drop)]
@@ -16,8 +17,8 @@ impl FailingCalls {
 
     /// Counts a call, and says whether it fails.
     pub fn fails_now(&mut self) -> bool
-        ensures fails { IsTrue result ↔ Contains self.old.fails.items self.old.next }
-        ensures next { self.new ≡ record self.old { next = min (self.old.next + 1) (2 ^ 64 - 1) } }
+        ensures fails { IsTrue result ↔ NextFails self.old }
+        ensures next { self.new ≡ one_more self.old }
     {
         let call = self.next;
         self.next = call.saturating_add(1);

@@ -1,5 +1,7 @@
 //! An output in memory.
-ghost use Rattle.std.specs.Prelude.{◌≡◌, []};
+ghost use Rattle.std.specs.Prelude.{◌≡◌, ◌+◌, ◌-◌, ◌^◌, ◌++◌, [], length, min, IfOk, IsErr, OnErr, OnOk};
+ghost use Rattle.pool_outer.specs.declared.sink.SinkError.TheVariants.{Failed};
+ghost use Rattle.pool_outer.specs.Cause.{HasCause};
 
 use super::{Sink, SinkError};
 use crate::faults::count_fault;
@@ -15,8 +17,12 @@ pub struct MemSink {
 }
 
 impl MemSink {
+    ghost use Rattle.pool_outer.specs.MemoryParts.{failing_write, write_count};
+
     pub fn new(alloc: Global, fails: Option<u64>) -> MemSink
         ensures written { ⟦<MemSink as Sink>⟧.written result ≡ [] }
+        ensures count { write_count result ≡ 0 }
+        ensures fails { failing_write result ≡ fails }
         ensures faults { ⟦<MemSink as Sink>⟧.faults result ≡ 0 }
     {
         MemSink {
@@ -36,6 +42,7 @@ impl MemSink {
 
 impl Sink for MemSink {
     ghost use Rattle.std.specs.Prelude.{true};
+    ghost use Rattle.pool_outer.specs.MemoryParts.{failing_write, sink_faults, write_count, written_to};
 
     ghost faults = { λ s. s.faults };
 
@@ -43,7 +50,18 @@ impl Sink for MemSink {
 
     ghost written = { λ s. s.bytes.items };
 
-    fn write(&mut self, bytes: &[u8]) -> Result<usize, SinkError> {
+    fn write(&mut self, bytes: &[u8]) -> Result<usize, SinkError>
+        // The call is counted, and fails where it was told to.
+        ensures count { write_count self.new ≡ min (write_count self.old + 1) (2 ^ 64 - 1) }
+        ensures kept { failing_write self.new ≡ failing_write self.old }
+        ensures fails { failing_write self.old ≡ Some (write_count self.old) → IsErr result }
+
+        // It takes all or nothing.
+        ensures whole { IfOk result (λ n. n ≡ length bytes.now) }
+        ensures taken { OnOk result (written_to self.new ≡ written_to self.old ++ bytes.now) }
+        ensures refused { OnErr result (written_to self.new ≡ written_to self.old) }
+        ensures cause { HasCause Failed (sink_faults self.old) (sink_faults self.new) result }
+    {
         let call = self.calls;
         self.calls = call.saturating_add(1);
         if self.fails == Some(call) || self.bytes.extend_from_slice(bytes).is_err() {

@@ -1,23 +1,6 @@
 use super::*;
 use std::io;
 
-fn offer<K: Sink>(sink: &mut K, bytes: &str) -> Result<usize, SinkError> {
-    sink.write(bytes.as_bytes())
-}
-
-#[test]
-fn an_output_in_memory_fails_the_call_that_it_was_told_to_fail(rt: HostRuntime) {
-    let mut sink = MemSink::new(rt.alloc(), Some(1));
-    for (bytes, want) in [
-        ("one ", Ok(4)),
-        ("two ", Err(SinkError::Failed)),
-        ("", Ok(0)),
-        ("three", Ok(5)),
-    ] {
-        assert_eq!(rt; offer(&mut sink, bytes), want, "{bytes:?}");
-    }
-}
-
 // Takes at most so many bytes of a piece.
 #[derive(Drop)]
 struct Narrow {
@@ -44,7 +27,7 @@ fn a_writer_that_takes_nothing_has_failed(rt: HostRuntime) {
     ] {
         let mut sink = StdSink::new(Narrow { most });
         assert_eq!(rt;
-            offer(&mut sink, bytes),
+            sink.write(bytes.as_bytes()),
             want,
             "at most {most} of {bytes:?}"
         );

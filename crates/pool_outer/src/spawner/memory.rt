@@ -1,11 +1,12 @@
 //! Child programs in memory.
-ghost use Rattle.std.specs.Prelude.{◌≡◌, ◌≢◌, ◌≤◌, ◌<◌, ◌+◌, ◌-◌, ◌↔◌, ℕ, [], true, false, length, find, Contains, IsErrOf, IsOkUnless};
+ghost use Rattle.std.specs.Prelude.{◌≡◌, ◌<◌, ◌↔◌, length, find, IfOk, IsOk, IsOkAnd, IsErrOf, IsOkUnless, OnErr, OnOk};
 ghost use Rattle.std.specs.Option.{option_copied};
 ghost use Rattle.std.specs.Str.{bytes_eq};
 ghost use Rattle.pool_outer.specs.declared.spawner.ChildState.TheVariants.{Running, Signalled};
 ghost use Rattle.pool_outer.specs.declared.spawner.SpawnError.TheVariants.{Failed};
 ghost use Rattle.pool_outer.specs.Cause.{HasCause};
-ghost use Rattle.pool_outer.specs.MemoryChildren.{state_of, Follows, WillEnd};
+ghost use Rattle.pool_outer.specs.MemoryCalls.{NextFails, one_more};
+ghost use Rattle.pool_outer.specs.MemoryChildren.{child_of, new_child, Looks};
 
 use super::{ChildState, Launch, SpawnError, Spawner};
 use crate::failing::FailingCalls;
@@ -66,9 +67,7 @@ struct MemChild {
 
 impl MemChild {
     fn new(looks: u64, end: ChildEnd) -> MemChild
-        ensures running { result.state ≡ Running }
-        ensures spared { result.killed ≡ false }
-        ensures will_end { WillEnd result looks end }
+        ensures { result ≡ new_child looks end }
     {
         MemChild {
             state: ChildState::Running,
@@ -80,11 +79,7 @@ impl MemChild {
 
     fn look(&mut self) -> ChildState
         ensures seen { result ≡ self.new.state }
-        ensures ended { self.old.state ≢ Running → self.new ≡ self.old }
-        ensures killed { self.old.state ≡ Running → self.old.killed ≡ true → result ≡ Signalled SIGKILL }
-        ensures ends { self.old.state ≡ Running → self.old.killed ≡ false → self.old.looks ≡ 0 → result ≡ state_of self.old.end }
-        ensures runs { self.old.state ≡ Running → self.old.killed ≡ false → 0 < self.old.looks → self.new ≡ record self.old { looks = self.old.looks - 1 } }
-        ensures kept { self.new.killed ≡ self.old.killed }
+        ensures look { Looks self.old self.new }
     {
         if self.state != ChildState::Running {
             return self.state;
@@ -109,9 +104,7 @@ fn script_for<'a>(scripts: &'a [Script], program: &str) -> Option<&'a Script>
 }
 
 fn child_for(scripts: &[Script], program: &str) -> MemChild
-    ensures running { result.state ≡ Running }
-    ensures spared { result.killed ≡ false }
-    ensures follows { Follows scripts.now program.now result }
+    ensures { result ≡ child_of scripts.now program.now }
 {
     match script_for(scripts, program) {
         Some(script) => MemChild::new(script.looks, script.end),
@@ -140,7 +133,7 @@ impl Drop for SureSpawner {
 }
 
 impl SureSpawner {
-    ghost use Rattle.pool_outer.specs.Prepared.{scripts_of};
+    ghost use Rattle.pool_outer.specs.MemoryParts.{scripts_of};
 
     pub fn new(alloc: Global, scripts: Vec<Script>) -> SureSpawner
         ensures scripts { scripts_of result ≡ scripts.items }
@@ -164,6 +157,7 @@ impl SureSpawner {
 impl Spawner for SureSpawner {
     ghost use Rattle.std.specs.Prelude.{true, length};
     ghost use Rattle.pool_outer.specs.MemoryChildren.{last_seen, is_killed, unborn};
+    ghost use Rattle.pool_outer.specs.MemorySpawners.{IsSame, Kills, Launches, Polls};
 
     ghost faults = { λ _. 0 };
 
@@ -182,7 +176,11 @@ impl Spawner for SureSpawner {
     ghost unborn = { λ s k tells past. unborn s.children.items k past };
 
     #[tactic(auto, using(crate::proofs::Children::seen_as_before, crate::proofs::Children::killed_as_before))]
-    fn launch(&mut self, alloc: Global, what: &Launch) -> Result<u64, SpawnError> {
+    fn launch(&mut self, alloc: Global, what: &Launch) -> Result<u64, SpawnError>
+        ensures ok { IfOk result (λ number. Launches what.now self.old self.new number) }
+        ensures err { OnErr result (IsSame self.old self.new) }
+        ensures sure { IsOkUnless result SpawnError.Memory }
+    {
         let number = self.children.len() as u64;
         let child = child_for(self.scripts.as_slice(), what.program.as_str());
         let launch = what.copy(alloc)?;
@@ -192,12 +190,19 @@ impl Spawner for SureSpawner {
         Ok(number)
     }
 
-    fn poll(&mut self, child: u64) -> Result<ChildState, SpawnError> {
+    fn poll(&mut self, child: u64) -> Result<ChildState, SpawnError>
+        requires { child < ⟦<SureSpawner as Spawner>⟧.count self.old }
+        ensures { IsOkAnd result (Polls child self.old self.new) }
+    {
         let child = &mut self.children[child as usize];
         Ok(child.look())
     }
 
-    fn kill(&mut self, child: u64) -> Result<(), SpawnError> {
+    fn kill(&mut self, child: u64) -> Result<(), SpawnError>
+        requires { child < ⟦<SureSpawner as Spawner>⟧.count self.old }
+        ensures ok { IsOk result }
+        ensures kill { Kills child self.old self.new }
+    {
         let child = &mut self.children[child as usize];
         child.killed = true;
         Ok(())
@@ -235,13 +240,13 @@ impl Drop for MemSpawner {
 }
 
 impl MemSpawner {
-    ghost use Rattle.pool_outer.specs.Prepared.{scripts_of, sure_spawner, failing_launches, failing_polls, failing_kills};
+    ghost use Rattle.pool_outer.specs.MemoryParts.{scripts_of, sure_spawner, launch_calls, poll_calls, kill_calls};
 
     pub fn new(alloc: Global, scripts: Vec<Script>, fails: FailingSpawns) -> MemSpawner
         ensures scripts { scripts_of (sure_spawner result) ≡ scripts.items }
-        ensures launches { failing_launches result ≡ fails.launches.items }
-        ensures polls { failing_polls result ≡ fails.polls.items }
-        ensures kills { failing_kills result ≡ fails.kills.items }
+        ensures launches { launch_calls result ≡ record { next = 0; fails = fails.launches } }
+        ensures polls { poll_calls result ≡ record { next = 0; fails = fails.polls } }
+        ensures kills { kill_calls result ≡ record { next = 0; fails = fails.kills } }
         ensures idle { ⟦<MemSpawner as Spawner>⟧.count result ≡ 0 }
         ensures faults { ⟦<MemSpawner as Spawner>⟧.faults result ≡ 0 }
     {
@@ -264,8 +269,9 @@ impl MemSpawner {
 
 // Counts a call, and refuses one that fails.
 fn begin(calls: &mut FailingCalls, faults: &mut u64) -> Result<(), SpawnError>
-    ensures fails { IsErrOf result SpawnError.Failed ↔ Contains calls.old.fails.items calls.old.next }
+    ensures fails { IsErrOf result SpawnError.Failed ↔ NextFails calls.old }
     ensures only { IsOkUnless result SpawnError.Failed }
+    ensures calls { calls.new ≡ one_more calls.old }
     ensures cause { HasCause Failed faults.old faults.new result }
 {
     if calls.fails_now() {
@@ -278,6 +284,8 @@ fn begin(calls: &mut FailingCalls, faults: &mut u64) -> Result<(), SpawnError>
 impl Spawner for MemSpawner {
     ghost use Rattle.std.specs.Prelude.{true, length};
     ghost use Rattle.pool_outer.specs.MemoryChildren.{last_seen, is_killed, unborn};
+    ghost use Rattle.pool_outer.specs.MemoryParts.{sure_spawner, launch_calls, poll_calls, kill_calls, spawner_faults};
+    ghost use Rattle.pool_outer.specs.MemorySpawners.{CountsKill, CountsLaunch, CountsPoll, IsSame, Kills, Launches, Polls};
 
     ghost faults = { λ s. s.faults };
 
@@ -295,17 +303,39 @@ impl Spawner for MemSpawner {
 
     ghost unborn = { λ s k tells past. unborn s.inner.children.items k past };
 
-    fn launch(&mut self, alloc: Global, what: &Launch) -> Result<u64, SpawnError> {
+    fn launch(&mut self, alloc: Global, what: &Launch) -> Result<u64, SpawnError>
+        ensures ok { IfOk result (Launches what.now (sure_spawner self.old) (sure_spawner self.new)) }
+        ensures err { OnErr result (IsSame (sure_spawner self.old) (sure_spawner self.new)) }
+        ensures counted { CountsLaunch self.old self.new }
+        ensures fails { IsErrOf result SpawnError.Failed ↔ NextFails (launch_calls self.old) }
+        ensures cause { HasCause Failed (spawner_faults self.old) (spawner_faults self.new) result }
+    {
         begin(&mut self.launches, &mut self.faults)?;
         self.inner.launch(alloc, what)
     }
 
-    fn poll(&mut self, child: u64) -> Result<ChildState, SpawnError> {
+    fn poll(&mut self, child: u64) -> Result<ChildState, SpawnError>
+        requires { child < ⟦<MemSpawner as Spawner>⟧.count self.old }
+        ensures ok { IfOk result (Polls child (sure_spawner self.old) (sure_spawner self.new)) }
+        ensures err { OnErr result (IsSame (sure_spawner self.old) (sure_spawner self.new)) }
+        ensures only { IsOkUnless result SpawnError.Failed }
+        ensures counted { CountsPoll self.old self.new }
+        ensures fails { IsErrOf result SpawnError.Failed ↔ NextFails (poll_calls self.old) }
+        ensures cause { HasCause Failed (spawner_faults self.old) (spawner_faults self.new) result }
+    {
         begin(&mut self.polls, &mut self.faults)?;
         self.inner.poll(child)
     }
 
-    fn kill(&mut self, child: u64) -> Result<(), SpawnError> {
+    fn kill(&mut self, child: u64) -> Result<(), SpawnError>
+        requires { child < ⟦<MemSpawner as Spawner>⟧.count self.old }
+        ensures ok { OnOk result (Kills child (sure_spawner self.old) (sure_spawner self.new)) }
+        ensures err { OnErr result (IsSame (sure_spawner self.old) (sure_spawner self.new)) }
+        ensures only { IsOkUnless result SpawnError.Failed }
+        ensures counted { CountsKill self.old self.new }
+        ensures fails { IsErrOf result SpawnError.Failed ↔ NextFails (kill_calls self.old) }
+        ensures cause { HasCause Failed (spawner_faults self.old) (spawner_faults self.new) result }
+    {
         begin(&mut self.kills, &mut self.faults)?;
         self.inner.kill(child)
     }

@@ -1,9 +1,10 @@
 //! Files in memory.
-ghost use Rattle.std.specs.Prelude.{◌≡◌, ◌↔◌, ℕ, List, length, min, take, drop, Contains, IsErrOf, IsOkUnless};
+ghost use Rattle.std.specs.Prelude.{◌≡◌, ◌↔◌, ℕ, List, IsErrOf, IsOkUnless, IsOkAnd, MatchOption};
 ghost use Rattle.std.specs.Option.{option_copied};
 ghost use Rattle.pool_outer.specs.declared.store.StoreError.TheVariants.{Failed};
 ghost use Rattle.pool_outer.specs.Cause.{HasCause};
-ghost use Rattle.pool_outer.specs.MemoryFiles.{file_in};
+ghost use Rattle.pool_outer.specs.MemoryCalls.{NextFails, one_more};
+ghost use Rattle.pool_outer.specs.MemoryFiles.{file_in, size_in, Copies};
 
 use super::{Store, StoreError};
 use crate::failing::FailingCalls;
@@ -52,6 +53,7 @@ impl SureStore {
 
 impl Store for SureStore {
     ghost use Rattle.std.specs.Prelude.{true, is_some, length, ℕ, ◌≡◌};
+    ghost use Rattle.pool_outer.specs.MemoryParts.{files_of};
     ghost use Rattle.pool_outer.specs.Files.{bytes_in, Leaves};
     ghost use Rattle.pool_outer.specs.MemoryFiles.{file_in};
 
@@ -75,7 +77,10 @@ impl Store for SureStore {
 
     ghost only_now = { λ s name image tells left. left };
 
-    fn size(&mut self, _alloc: Global, name: &str) -> Result<u64, StoreError> {
+    fn size(&mut self, _alloc: Global, name: &str) -> Result<u64, StoreError>
+        ensures size { result ≡ size_in (files_of self.old) name.now }
+        ensures same { self.new ≡ self.old }
+    {
         match self.bytes_of(name) {
             Some(bytes) => Ok(bytes.len() as u64),
             None => Err(StoreError::Missing),
@@ -88,7 +93,12 @@ impl Store for SureStore {
         name: &str,
         place: u64,
         into: &mut [u8],
-    ) -> Result<usize, StoreError> {
+    ) -> Result<usize, StoreError>
+        ensures read { MatchOption (file_in (files_of self.old) name.now)
+            (result ≡ Err StoreError.Missing)
+            (λ bytes. IsOkAnd result (λ n. Copies bytes place n into.old into.new)) }
+        ensures same { self.new ≡ self.old }
+    {
         match self.bytes_of(name) {
             Some(bytes) => Ok(copy_from(bytes, place, into)),
             None => Err(StoreError::Missing),
@@ -115,10 +125,10 @@ impl Drop for MemStore {
 }
 
 impl MemStore {
-    ghost use Rattle.pool_outer.specs.Prepared.{failing_calls};
+    ghost use Rattle.pool_outer.specs.MemoryParts.{store_calls};
 
     pub fn new(files: Vec<MemFile>, fails: Vec<u64>) -> MemStore
-        ensures fails { failing_calls result ≡ fails.items }
+        ensures calls { store_calls result ≡ record { next = 0; fails = fails } }
         ensures files { (name : List ℕ) → ⟦<MemStore as Store>⟧.file result name ≡ file_in files.items name }
         ensures faults { ⟦<MemStore as Store>⟧.faults result ≡ 0 }
     {
@@ -131,8 +141,9 @@ impl MemStore {
 
     // Counts a call, and refuses one that fails.
     fn begin(&mut self) -> Result<(), StoreError>
-        ensures fails { IsErrOf result StoreError.Failed ↔ Contains self.old.calls.fails.items self.old.calls.next }
+        ensures fails { IsErrOf result StoreError.Failed ↔ NextFails self.old.calls }
         ensures only { IsOkUnless result StoreError.Failed }
+        ensures calls { self.new.calls ≡ one_more self.old.calls }
         ensures inner { self.new.inner ≡ self.old.inner }
         ensures cause { HasCause Failed self.old.faults self.new.faults result }
     {
@@ -147,6 +158,7 @@ impl MemStore {
 impl Store for MemStore {
     ghost use Rattle.std.specs.Prelude.{true, is_some, length};
     ghost use Rattle.pool_outer.specs.Files.{bytes_in, Leaves};
+    ghost use Rattle.pool_outer.specs.MemoryParts.{files_of, sure_store, store_calls, store_faults};
     ghost use Rattle.pool_outer.specs.MemoryFiles.{file_in};
 
     ghost faults = { λ s. s.faults };
@@ -169,7 +181,14 @@ impl Store for MemStore {
 
     ghost only_now = { λ s name image tells left. left };
 
-    fn size(&mut self, alloc: Global, name: &str) -> Result<u64, StoreError> {
+    fn size(&mut self, alloc: Global, name: &str) -> Result<u64, StoreError>
+        ensures calls { store_calls self.new ≡ one_more (store_calls self.old) }
+        ensures same { sure_store self.new ≡ sure_store self.old }
+        ensures fails { NextFails (store_calls self.old) → result ≡ Err StoreError.Failed }
+        ensures size { ¬ NextFails (store_calls self.old)
+            → result ≡ size_in (files_of (sure_store self.old)) name.now }
+        ensures cause { HasCause Failed (store_faults self.old) (store_faults self.new) result }
+    {
         self.begin()?;
         self.inner.size(alloc, name)
     }
@@ -180,7 +199,16 @@ impl Store for MemStore {
         name: &str,
         place: u64,
         into: &mut [u8],
-    ) -> Result<usize, StoreError> {
+    ) -> Result<usize, StoreError>
+        ensures calls { store_calls self.new ≡ one_more (store_calls self.old) }
+        ensures same { sure_store self.new ≡ sure_store self.old }
+        ensures fails { NextFails (store_calls self.old) → result ≡ Err StoreError.Failed }
+        ensures read { ¬ NextFails (store_calls self.old)
+            → MatchOption (file_in (files_of (sure_store self.old)) name.now)
+            (result ≡ Err StoreError.Missing)
+            (λ bytes. IsOkAnd result (λ n. Copies bytes place n into.old into.new)) }
+        ensures cause { HasCause Failed (store_faults self.old) (store_faults self.new) result }
+    {
         self.begin()?;
         self.inner.read_at(alloc, name, place, into)
     }
@@ -188,9 +216,7 @@ impl Store for MemStore {
 
 // Copies bytes from a place on to the front of a buffer, and says how many.
 fn copy_from(bytes: &[u8], place: u64, into: &mut [u8]) -> usize
-    ensures count { result ≡ min (length (drop place bytes.now)) (length into.old) }
-    ensures front { take result into.new ≡ take result (drop place bytes.now) }
-    ensures behind { drop result into.new ≡ drop result into.old }
+    ensures { Copies bytes.now place result into.old into.new }
 {
     let start = bytes.len().min(place as usize);
     let rest = &bytes[start..];

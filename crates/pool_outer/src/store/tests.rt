@@ -1,22 +1,20 @@
 use super::*;
-use ad_value::Text;
 use std::alloc::Global;
 use std::fs;
 use std::process::Abort;
 use std::rt::Files;
 use std::test::Fail;
 
-// Whether one read of at most three bytes gives these.
-fn reads<D: Store>(
+// What one read of at most three bytes gives: their count, and the buffer.
+fn read<D: Store>(
     store: &mut D,
     alloc: Global,
     name: &str,
     place: u64,
-    want: &str,
-) -> Result<bool, StoreError> {
-    let mut buffer = [0u8; 3];
+) -> Result<(usize, [u8; 3]), StoreError> {
+    let mut buffer = *b"...";
     let count = store.read_at(alloc, name, place, &mut buffer)?;
-    Ok(&buffer[..count] == want.as_bytes())
+    Ok((count, buffer))
 }
 
 // Asks for the size of a file, and then for at most three bytes of it from a place on.
@@ -26,16 +24,12 @@ fn check<D: Store>(
     store: &mut D,
     name: &str,
     size: Result<u64, StoreError>,
-    (place, piece): (u64, Result<&str, StoreError>),
+    (place, piece): (u64, Result<(usize, [u8; 3]), StoreError>),
 ) {
     assert_eq!(rt; store.size(alloc, name), size, "{name}");
-    let (bytes, read) = match piece {
-        Ok(bytes) => (bytes, Ok(true)),
-        Err(error) => ("", Err(error)),
-    };
     assert_eq!(rt;
-        reads(store, alloc, name, place, bytes),
-        read,
+        read(store, alloc, name, place),
+        piece,
         "{name} from {place}"
     );
 }
@@ -43,33 +37,6 @@ fn check<D: Store>(
 const MISSING: StoreError = StoreError::Missing;
 
 const FAILED: StoreError = StoreError::Failed;
-
-fn put_file(alloc: Global, files: &mut Vec<MemFile>) -> Result<(), Fail> {
-    files.push(MemFile {
-        name: Text::from_str(alloc, "a")?,
-        bytes: b"hello".to_vec(alloc)?,
-    })?;
-    Ok(())
-}
-
-// One file, and two calls that fail.
-fn prepare(alloc: Global, files: &mut Vec<MemFile>, fails: &mut Vec<u64>) -> Result<(), Fail> {
-    put_file(alloc, files)?;
-    fails.extend_from_slice(&[1, 2])?;
-    Ok(())
-}
-
-#[test]
-fn the_calls_of_the_list_fail_and_no_other(rt: HostRuntime) -> Result<(), Fail> {
-    let alloc = rt.alloc();
-    let (mut files, mut fails) = (Vec::new(alloc), Vec::new(alloc));
-    prepare(alloc, &mut files, &mut fails)?;
-    let mut store = MemStore::new(files, fails);
-    check(&rt, alloc, &mut store, "a", Ok(5), (0, Err(FAILED)));
-    check(&rt, alloc, &mut store, "a", Err(FAILED), (1, Ok("ell")));
-    check(&rt, alloc, &mut store, "b", Err(MISSING), (0, Err(MISSING)));
-    Ok(())
-}
 
 fn check_file<D: Store>(
     rt: &(impl Files + Abort),
@@ -79,8 +46,8 @@ fn check_file<D: Store>(
     let name = "pool_outer_file";
     check(rt, alloc, store, name, Err(MISSING), (0, Err(MISSING)));
     fs::write(rt, name, "hello")?;
-    check(rt, alloc, store, name, Ok(5), (1, Ok("ell")));
-    check(rt, alloc, store, name, Ok(5), (5, Ok("")));
+    check(rt, alloc, store, name, Ok(5), (1, Ok((3, *b"ell"))));
+    check(rt, alloc, store, name, Ok(5), (5, Ok((0, *b"..."))));
     fs::remove_file(rt, name)?;
     check(rt, alloc, store, name, Err(FAILED), (0, Err(FAILED)));
     let nowhere = "no such folder/file";
