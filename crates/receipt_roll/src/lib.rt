@@ -3,12 +3,12 @@
 
 mod error;
 mod growth;
-pub mod laws;
 mod receipt;
 mod roll;
 mod rule;
 mod scribe;
 mod steps;
+mod threads;
 
 pub use error::RollError;
 pub use receipt::{Mark, Receipt};
