@@ -71,29 +71,29 @@ module _ {T : Type 0} where
   used_up_after_append cells more (NewItem item right next ∷ log) up =
       (home_after_append cells more right up.0, used_up_after_append cells more log up.1)
 
-  unused_case : (cells : List Cell) (right : ℕ) (item : T) (used next : ℕ) (log : List (Growth T))
+  nothing_added_case : (cells : List Cell) (right : ℕ) (item : T) (used next : ℕ) (log : List (Growth T))
       → (cell cells right).1 ≡ false → (cell cells used).1 ≡ true
       → (items_from right log ≡ []) × (last_right right log ≡ right) → (b : Bool) → (used == right) ≡ b
       → (items_from right (NewItem item used next ∷ log) ≡ []) × (last_right right (NewItem item used next ∷ log) ≡ right)
-  unused_case cells right item used next log away home rest true is =
+  nothing_added_case cells right item used next log away home rest true is =
       let same : used ≡ right = grind (arith, nat_tests) in
       let here : (cell cells right).1 ≡ true = subst (λ (key : ℕ). (cell cells key).1 ≡ true) same home in
       absurd (cc (here, away))
-  unused_case cells right item used next log away home rest false is = rw is rest
+  nothing_added_case cells right item used next log away home rest false is = rw is rest
 
   -- nothing was added with a right whose cell is away
-  pub unused : (cells : List Cell) (right : ℕ) (log : List (Growth T)) → (cell cells right).1 ≡ false → AreUsedUp cells log
+  pub nothing_added : (cells : List Cell) (right : ℕ) (log : List (Growth T)) → (cell cells right).1 ≡ false → AreUsedUp cells log
       → (items_from right log ≡ []) × (last_right right log ≡ right)
-  unused cells right [] away up = (refl, refl)
-  unused cells right (NewRight made ∷ log) away up = unused cells right log away up
-  unused cells right (NewItem item used next ∷ log) away up =
-      unused_case cells right item used next log away up.0.1 (unused cells right log away up.1) (used == right) refl
+  nothing_added cells right [] away up = (refl, refl)
+  nothing_added cells right (NewRight made ∷ log) away up = nothing_added cells right log away up
+  nothing_added cells right (NewItem item used next ∷ log) away up =
+      nothing_added_case cells right item used next log away up.0.1 (nothing_added cells right log away up.1) (used == right) refl
 
   -- so a roll whose last right's cell is away has not grown
   pub no_more : (cells : List Cell) (first right : ℕ) (log more : List (Growth T)) → last_right first log ≡ right
       → (cell cells right).1 ≡ false → AreUsedUp cells (log ++ more) → GrowsBy first log (log ++ more) [] right
   no_more cells first right log more is away up =
-      let none = unused cells (last_right first log) more (subst (λ (key : ℕ). (cell cells key).1 ≡ false) (sym is) away) (used_up_rest cells log more up) in
+      let none = nothing_added cells (last_right first log) more (subst (λ (key : ℕ). (cell cells key).1 ≡ false) (sym is) away) (used_up_rest cells log more up) in
       (items_from-append first log more ∙ ap (λ (xs : List T). items_from first log ++ xs) none.0, last_right-append first log more ∙ (none.1 ∙ is))
 
   -- and it has one item more, once that right adds one

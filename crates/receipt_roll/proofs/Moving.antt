@@ -9,7 +9,7 @@ use Rattle.receipt_roll.specs.declared.growth.Growth.TheVariants.{NewRight, NewI
 use Rattle.receipt_roll.specs.Growth.{newest_right}
 use Rattle.receipt_roll.specs.Steps.{AreUsedUp, IsBookOfRolls, MakesRight, SeesNoMore, AddsItem}
 use Rattle.receipt_roll.proofs.Cells.{home_where_set, home_after_set, home_after_append}
-use Rattle.receipt_roll.proofs.Logs.{newest_right-append, used_up-append, used_up_after_set, used_up_after_append, unused, no_more, one_more}
+use Rattle.receipt_roll.proofs.Logs.{newest_right-append, used_up-append, used_up_after_set, used_up_after_append, nothing_added, no_more, one_more}
 
 -- the value of the word at which the steps are taken, which each step writes anew
 abbrev word_value : List Cell → ℕ
@@ -24,8 +24,8 @@ module _ {T : Type 0} where
   moved before after answer = Unit {0}
 
   -- what comes after a beginning that was seen
-  since : (log seen whole : List (Growth T)) → (p : IsPrefix log seen) → (q : IsPrefix seen whole) → log ++ (p.0 ++ q.0) ≡ whole
-  since log seen whole p q = sym (append_assoc log p.0 q.0) ∙ (ap (λ (l : List (Growth T)). l ++ q.0) p.1 ∙ q.1)
+  beginning_with_rest : (log seen whole : List (Growth T)) → (p : IsPrefix log seen) → (q : IsPrefix seen whole) → log ++ (p.0 ++ q.0) ≡ whole
+  beginning_with_rest log seen whole p q = sym (append_assoc log p.0 q.0) ∙ (ap (λ (l : List (Growth T)). l ++ q.0) p.1 ∙ q.1)
 
   pub make_right_moves : (seen : List (Growth T)) (ask : Growth T)
       → Moves IsBookOfRolls shown moved 0 (seen, (no_nib, None)) (λ n. either (n == 0) 0 n) (MakesRight (step 0 0 0 ask) (seen, (no_nib, None)))
@@ -35,7 +35,7 @@ module _ {T : Type 0} where
       let set : List Cell = slice_set cells 0 (word_value cells, true) in
       let newest : newest_right 0 (log ++ more) ≡ right = newest_right-append 0 right log in
       let up : AreUsedUp cells (log ++ more) = used_up-append cells log more rule.used_up tt in
-      let none = unused cells right (log ++ more) (ap (λ (c : Cell). c.1) (get_or_past cells right (0, false) (omega arith))) up in (
+      let none = nothing_added cells right (log ++ more) (ap (λ (c : Cell). c.1) (get_or_past cells right (0, false) (omega arith))) up in (
         rule.word.0,
         rule.word.1,
         (
@@ -72,7 +72,7 @@ module _ {T : Type 0} where
           (
             refl,
             λ first was p is.
-                let parts = since was seen log p prefix in
+                let parts = beginning_with_rest was seen log p prefix in
                 rw (same, ← parts) (no_more cells first pen.key was (p.0 ++ prefix.0) is (away may).1
                 (subst (λ (l : List (Growth T)). AreUsedUp cells l) (sym parts) rule.used_up)),
           ),
@@ -100,7 +100,7 @@ module _ {T : Type 0} where
           },
           inl (refl, refl),
           λ first was p is.
-              let parts = since was seen log p prefix in
+              let parts = beginning_with_rest was seen log p prefix in
               rw (← parts) (one_more cells first pen.key (newest_right 0 seen) item was (p.0 ++ prefix.0) is (away may).1
               (subst (λ (l : List (Growth T)). AreUsedUp cells l) (sym parts) rule.used_up)),
         ),
