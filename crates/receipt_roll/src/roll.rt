@@ -92,6 +92,7 @@ impl<T> Roll<T> {
     /// Computes in O(items), and in O(1) where `spare` is large enough. After an error the roll is
     /// as it was.
     pub fn room(&mut self, count: u64) -> Result<(), RollError>
+        // What it gives, and what it leaves as it is.
         ensures room { OnOk result (count ≤ self.new.spare) }
         ensures kept { self.old.spare ≤ self.new.spare }
         ensures list { self.new.list ≡ self.old.list }
@@ -138,10 +139,12 @@ impl<T> Roll<T> {
 impl<T: Drop> Roll<T> {
     /// Puts an item at the end of the list. The roll keeps `item`, and the receipt `copy`, which
     /// equals it. Takes no memory where `spare` is at least 1; where it is 0, what it is afterwards
-    /// is left open. Computes in O(1), where it takes memory on average. After an error the roll is
-    /// as it was, and both items are dropped.
+    /// is left open. Computes in O(1), with memory on average. After an error the roll is as it
+    /// was, and both items are dropped.
     pub fn append(&mut self, item: T, copy: T) -> Result<Receipt<T>, RollError>
         requires { item ≡ copy }
+
+        // What it gives, and what it leaves as it is.
         ensures list { OnOk result (self.new.list ≡ self.old.list ++ item ∷ []) }
         ensures receipt { IfOk result (λ r. r ≡ next_receipt self.old item) }
         ensures spare { 0 < self.old.spare → self.new.spare + 1 ≡ self.old.spare }
