@@ -4,7 +4,7 @@ use Rattle.std.proofs.lemmas.List.Folds.{list_any_at}
 use Rattle.ad_value.specs.declared.value.Value.{Value, the_lemmas}
 use Rattle.ad_value.specs.declared.value.Value.TheVariants as value
 use Rattle.ad_value.specs.declared.value.ValueList.{ValueList}
-use Rattle.ad_value.specs.Content.{Content, content, contents, contents_of, listed, Contents, items, truth}
+use Rattle.ad_value.specs.Content.{Content, content, contents, contents_of, list_content, Contents, items, truth}
 use Rattle.ad_value.specs.Order.{order_of}
 use Rattle.ad_func.specs.declared.function.Kind.TheVariants as kind
 use Rattle.ad_func.specs.Kinds.{is_of}
@@ -23,5 +23,5 @@ member_is x v l b e k h =
     content_of_truth : (t : Bool) → content (value.Bool t) ≡ truth t
     content_of_truth t = search (rules, the_lemmas)
 
-    in_list : (y : Content) (cs : Contents) → is_of kind.Items y ≡ false → member y (items cs) ≡ truth (has_equal y (listed cs))
+    in_list : (y : Content) (cs : Contents) → is_of kind.Items y ≡ false → member y (items cs) ≡ truth (has_equal y (list_content cs))
     in_list y cs n = rw n refl

@@ -10,7 +10,7 @@ use mir.Val.{SFits, to_z, of_z}
 use Rattle.ad_value.specs.declared.value.Value.{Value, the_lemmas}
 use Rattle.ad_value.specs.declared.value.Value.TheVariants as value
 use Rattle.ad_value.specs.declared.value.ValueList.{ValueList}
-use Rattle.ad_value.specs.Content.{Content, error, integer, items, content, contents, contents_of, listed, listed-contents_of}
+use Rattle.ad_value.specs.Content.{Content, error, integer, items, content, contents, contents_of, list_content, list_content-contents_of}
 use Rattle.ad_func.specs.Numbers.{integer_read, size_of}
 
 numeral : IsNumeralModel (λ ds. all_ascii_digits ds ≡ true) (digits_value 10)
@@ -34,8 +34,8 @@ read_is bs r h plus = by (starts_with_minus bs) refl
     by false e = rw e (by_test _ r _ _ (parse_signed_plain numeral w64 bs r h plus (search (rules, tests))) (search (rules, tests)) (search (rules, tests)))
 
 -- a list is as long as its items
-pub listed_is : (l : ValueList) → listed (contents_of (contents l)) ≡ map content l.items.items
-listed_is l = listed-contents_of (contents l) ∙ search (rules, the_lemmas)
+pub listed_is : (l : ValueList) → list_content (contents_of (contents l)) ≡ map content l.items.items
+listed_is l = list_content-contents_of (contents l) ∙ search (rules, the_lemmas)
 
 pub content_of_list : (l : ValueList) → content (value.List l) ≡ items (contents_of (contents l))
 content_of_list l = search (rules, the_lemmas)

@@ -3,7 +3,7 @@ use Rattle.std.specs.Prelude.{ℕ, pos, Bool, true, false, not, ◌==◌, List, 
 use Rattle.std.specs.List.{list_any, filter, slice_split}
 use Rattle.ad_value.specs.declared.order.Order.{Order}
 use Rattle.ad_value.specs.declared.order.Order.TheVariants as order
-use Rattle.ad_value.specs.Content.{Content, error, truth, integer, text, items, listed}
+use Rattle.ad_value.specs.Content.{Content, error, truth, integer, text, items, list_content}
 use Rattle.ad_value.specs.Order.{order_of}
 use Rattle.ad_func.specs.declared.function.Kind.TheVariants as kind
 use Rattle.ad_func.specs.Kinds.{is_of}
@@ -17,7 +17,7 @@ abbrev pub has_equal : Content → List Content → Bool
 has_equal x vs = list_any (λ v. is_equal (order_of x v)) vs
 
 abbrev pub member : Content → Content → Content
-member x (items l) = if is_of kind.Items x then error else truth (has_equal x (listed l))
+member x (items l) = if is_of kind.Items x then error else truth (has_equal x (list_content l))
 member x v = error
 
 abbrev pub has_char : List ℕ → ℕ → Bool

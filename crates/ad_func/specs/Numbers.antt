@@ -2,7 +2,7 @@
 use Rattle.std.specs.Prelude.{ℕ, pos, neg_ℤ, Bool, ◌^◌, ◌&&◌, List, length, drop, chars, nat_lt, nat_le, if◌then◌else◌}
 use Rattle.std.specs.Str.{all_ascii_digits}
 use Rattle.std.specs.Str.Parse.{digits_value, starts_with_minus}
-use Rattle.ad_value.specs.Content.{Content, error, truth, integer, text, items, listed}
+use Rattle.ad_value.specs.Content.{Content, error, truth, integer, text, items, list_content}
 use Rattle.ad_value.specs.Order.{number_of}
 
 -- one digit or more
@@ -25,7 +25,7 @@ int_of v = error
 -- the characters of a text, the items of a list
 abbrev pub size_of : Content → Content
 size_of (text s) = integer (pos (length (chars s)))
-size_of (items l) = integer (pos (length (listed l)))
+size_of (items l) = integer (pos (length (list_content l)))
 size_of v = error
 
 -- a reading of the clock that is past the integers is an error

@@ -7,7 +7,7 @@ use Rattle.std.specs.Cmp.Lexicographic.{slice_cmp}
 use Rattle.std.specs.declared.cmp.Ordering.{Ordering}
 use Rattle.std.specs.declared.cmp.Ordering.TheVariants as ordering
 use Rattle.ad_value.specs.Content.{Content, error, truth, integer, text}
-use Rattle.ad_value.specs.Order.{folded}
+use Rattle.ad_value.specs.Order.{folded_text}
 use Rattle.ad_func.specs.Arguments.{strict}
 
 -- a list has no text
@@ -57,7 +57,7 @@ abbrev pub compared : List ℕ → List ℕ → Content
 compared a b = integer (sign (slice_cmp nat_cmp a b))
 
 abbrev pub compared_folded : List ℕ → List ℕ → Content
-compared_folded a b = compared (folded a) (folded b)
+compared_folded a b = compared (folded_text a) (folded_text b)
 
 -- the place at an offset within c characters: from the front, or where it is negative from the end
 abbrev pub start_of : ℕ → ℤ → ℕ

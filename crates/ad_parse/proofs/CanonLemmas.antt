@@ -1,7 +1,7 @@
 -- Canonical texts of lists, one operand or item more at a time.
 use Rattle.std.proofs.Common.{◌≡◌, ℕ, zero, suc, ◌+◌, ◌-◌, ◌<◌, List, [], ◌∷◌, ◌++◌, length, map, take, get_or, codes, ap, sym, ◌∙◌, arith, rules, tests, append_assoc}
 use Rattle.std.proofs.lemmas.List.{append-nil, length-map, length-take-le, take_more, map-append}
-use Rattle.ad_value.specs.Literal.{separator}
+use Rattle.ad_value.specs.Literal.{item_separator}
 use Rattle.ad_tree.specs.declared.operator.BinOp.{BinOp}
 use Rattle.ad_tree.specs.declared.tree.Expr.{Expr, the_lemmas}
 use Rattle.ad_tree.specs.declared.tree.ExprList.{ExprList}
@@ -35,8 +35,8 @@ rests_more bs xs i x p at =
     ∙ ap (λ l. bs ++ l) (sym (rests-push (map rest (take i xs)) (rest x)))
     ∙ ap (λ l. bs ++ canon_rests (rests_of l)) (sym (more_at rest xs i x p at))
 
-separator-suc : (i : ℕ) → separator (suc i) ≡ codes ", "
-separator-suc i = search (rules, tests)
+item_separator-suc : (i : ℕ) → item_separator (suc i) ≡ codes ", "
+item_separator-suc i = search (rules, tests)
 
 more-push : (es : List Tree) (e : Tree) → canon_more (trees_of (es ++ e ∷ [])) ≡ canon_more (trees_of es) ++ (codes ", " ++ canon e)
 more-push [] e = append-nil (codes ", " ++ canon e)
@@ -47,20 +47,20 @@ items-push [] e some = absurd (omega (arith, some))
 items-push (x ∷ es) e some = ap (λ l. canon x ++ l) (more-push es e) ∙ sym (append_assoc (canon x) (canon_more (trees_of es)) (codes ", " ++ canon e))
 
 -- one item more, with what stands before it
-items-more : (es : List Tree) (i : ℕ) (e : Tree) → length es ≡ i → canon_items (trees_of (es ++ e ∷ [])) ≡ (canon_items (trees_of es) ++ separator i) ++ canon e
+items-more : (es : List Tree) (i : ℕ) (e : Tree) → length es ≡ i → canon_items (trees_of (es ++ e ∷ [])) ≡ (canon_items (trees_of es) ++ item_separator i) ++ canon e
 items-more [] zero e h = append-nil (canon e)
 items-more [] (suc i) e h = absurd (omega (arith, h))
 items-more (x ∷ es) zero e h = absurd (omega (arith, h))
 items-more (x ∷ es) (suc i) e h =
     items-push (x ∷ es) e (omega arith)
     ∙ sym (append_assoc (canon_items (trees_of (x ∷ es))) (codes ", ") (canon e))
-    ∙ ap (λ l. (canon_items (trees_of (x ∷ es)) ++ l) ++ canon e) (sym (separator-suc i))
+    ∙ ap (λ l. (canon_items (trees_of (x ∷ es)) ++ l) ++ canon e) (sym (item_separator-suc i))
 
-pub items_more : (bs : List ℕ) (xs : List Expr) (i : ℕ) (x : Expr) → i < length xs → x ≡ get_or xs i x → ((bs ++ canon_items (trees_of (map tree (take i xs)))) ++ separator i) ++ canon (tree x) ≡ bs ++ canon_items (trees_of (map tree (take (i + 1) xs)))
+pub items_more : (bs : List ℕ) (xs : List Expr) (i : ℕ) (x : Expr) → i < length xs → x ≡ get_or xs i x → ((bs ++ canon_items (trees_of (map tree (take i xs)))) ++ item_separator i) ++ canon (tree x) ≡ bs ++ canon_items (trees_of (map tree (take (i + 1) xs)))
 items_more bs xs i x p at =
     let front = canon_items (trees_of (map tree (take i xs))) in
     let whole = items-more (map tree (take i xs)) i (tree x) (length-map (take i xs) tree ∙ length-take-le i xs (omega arith)) in
-    ap (λ l. l ++ canon (tree x)) (append_assoc bs front (separator i))
-    ∙ append_assoc bs (front ++ separator i) (canon (tree x))
+    ap (λ l. l ++ canon (tree x)) (append_assoc bs front (item_separator i))
+    ∙ append_assoc bs (front ++ item_separator i) (canon (tree x))
     ∙ ap (λ l. bs ++ l) (sym whole)
     ∙ ap (λ es. bs ++ canon_items (trees_of es)) (sym (more_at tree xs i x p at))

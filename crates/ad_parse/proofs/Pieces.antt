@@ -79,7 +79,7 @@ abbrev mutual
 
 -- ---- joined they are the canonical text
 
-literal_same : (c : Content) → is_proper (literal_token c) ≡ true → token_text (literal_token c) ≡ value.literal c
+literal_same : (c : Content) → is_proper (literal_token c) ≡ true → token_text (literal_token c) ≡ value.literal_text c
 literal_same undefined h = refl
 literal_same error h = refl
 literal_same (truth true) h = refl

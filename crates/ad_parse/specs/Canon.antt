@@ -55,7 +55,7 @@ within l k text = if nat_le k l then text else codes "(" ++ text ++ codes ")"
 
 abbrev mutual
   pub canon : Tree → List ℕ
-  canon (literal c) = value.literal c
+  canon (literal c) = value.literal_text c
   canon (reference s x) = scope_text s ++ x
   canon (unary op e) = prefix_text op ++ within 0 (looseness e) (canon e)
   canon (chain e rs) = within (rests_level rs - 1) (looseness e) (canon e) ++ canon_rests rs

@@ -2,7 +2,7 @@
 
 ghost use Rattle.std.specs.Prelude.{◌≡◌, ◌++◌, ℕ, List, IfOk, OnOk, string_bytes};
 ghost use Rattle.ad_value.specs.Content.{content};
-ghost use Rattle.ad_value.specs.Literal.{literal, separator};
+ghost use Rattle.ad_value.specs.Literal.{literal_text};
 ghost use Rattle.ad_tree.specs.Tree.{tree, trees, trees_of, rest, rests, rests_of};
 ghost use Rattle.ad_parse.specs.Operators.{level_of};
 ghost use Rattle.ad_parse.specs.Canon.{canon, canon_rests, canon_items, within, looseness as loose, scope_text, prefix_text, infix_text};
@@ -10,7 +10,7 @@ ghost use Rattle.ad_parse.specs.ExprText.{IsExprText};
 
 use crate::levels::{LOOSEST, chain_level, level, looseness};
 use ad_tree::{BinOp, Expr, ExprList, Rest, RestList, Scope, UnOp};
-use ad_value::{Memory, Text, Value};
+use ad_value::{Memory, Text, Value, write_item_separator};
 use std::alloc::Global;
 
 /// The canonical text: one blank on both sides of what stands between two operands, none behind an operator before its operand,
@@ -101,24 +101,14 @@ fn write_items(alloc: Global, text: &mut String, list: &ExprList) -> Result<(), 
     ensures { OnOk result (string_bytes text.new ≡ string_bytes text.old ++ canon_items (trees_of (trees list.now))) }
 {
     for (i, item) in list.items.iter().enumerate() {
-        write_separator(text, i)?;
+        write_item_separator(text, i)?;
         write_expr(alloc, text, item)?;
     }
     Ok(())
 }
 
-// What stands before the item at a place.
-fn write_separator(text: &mut String, i: usize) -> Result<(), Memory>
-    ensures { OnOk result (string_bytes text.new ≡ string_bytes text.old ++ separator i) }
-{
-    if i == 0 {
-        return Ok(());
-    }
-    Ok(text.push_str(", ")?)
-}
-
 fn write_literal(alloc: Global, text: &mut String, value: &Value) -> Result<(), Memory>
-    ensures { OnOk result (string_bytes text.new ≡ string_bytes text.old ++ literal (content value.now)) }
+    ensures { OnOk result (string_bytes text.new ≡ string_bytes text.old ++ literal_text (content value.now)) }
 {
     let literal = value.text(alloc)?;
     Ok(text.push_str(literal.as_str())?)

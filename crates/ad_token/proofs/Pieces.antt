@@ -10,7 +10,7 @@ use Rattle.std.proofs.lemmas.Bool.{lt-ltb}
 use Rattle.std.proofs.lemmas.Bool.Decides.{nat_tests}
 use Rattle.std.proofs.lemmas.Fmt.{decimal_nonempty, digits_decimal, digits_value-decimal}
 use Rattle.std.proofs.lemmas.List.{take_at, drop_at, length-append}
-use Rattle.ad_value.specs.Literal.{escaped, quoted}
+use Rattle.ad_value.specs.Literal.{escape_text, quoted_text}
 use Rattle.ad_tree.specs.declared.operator.Scope.{Scope}
 use Rattle.ad_tree.specs.declared.operator.Scope.TheVariants.{Bare, My, Target}
 use Rattle.ad_token.specs.declared.token.Token.{Token}
@@ -277,57 +277,57 @@ and_false : (b : Bool) → b && false ≡ false
 and_false true = refl
 and_false false = refl
 
-closing_escaped : (s bs : List ℕ) → list_all (λ b. not (eqb b 10)) s ≡ true → closing false (flat_map escaped s ++ 34 ∷ bs) ≡ Some (length (flat_map escaped s))
-closing_escaped [] bs h = refl
-closing_escaped (b ∷ s) bs h =
+closing_escape_text : (s bs : List ℕ) → list_all (λ b. not (eqb b 10)) s ≡ true → closing false (flat_map escape_text s ++ 34 ∷ bs) ≡ Some (length (flat_map escape_text s))
+closing_escape_text [] bs h = refl
+closing_escape_text (b ∷ s) bs h =
     let p = both (not (eqb b 10)) _ h in
-    by (eqb b 34) (eqb b 92) refl refl (not_true (eqb b 10) p.0) (closing_escaped s bs p.1)
+    by (eqb b 34) (eqb b 92) refl refl (not_true (eqb b 10) p.0) (closing_escape_text s bs p.1)
   where
     more : (k : ℕ) → k + 1 ≡ suc k
     more k = omega arith
 
-    held : eqb b 10 ≡ false → closing false (flat_map escaped s ++ 34 ∷ bs) ≡ Some (length (flat_map escaped s)) → closing false (92 ∷ b ∷ (flat_map escaped s ++ 34 ∷ bs)) ≡ Some (suc (suc (length (flat_map escaped s))))
+    held : eqb b 10 ≡ false → closing false (flat_map escape_text s ++ 34 ∷ bs) ≡ Some (length (flat_map escape_text s)) → closing false (92 ∷ b ∷ (flat_map escape_text s ++ 34 ∷ bs)) ≡ Some (suc (suc (length (flat_map escape_text s))))
     held line rest =
         ap (λ o. option_map (λ n. n + 1) o) (
-        closing_step true b (flat_map escaped s ++ 34 ∷ bs) line (and_false (eqb b 34))
-        ∙ ap (λ k. option_map (λ n. n + 1) (closing k (flat_map escaped s ++ 34 ∷ bs))) (and_false (eqb b 92))
+        closing_step true b (flat_map escape_text s ++ 34 ∷ bs) line (and_false (eqb b 34))
+        ∙ ap (λ k. option_map (λ n. n + 1) (closing k (flat_map escape_text s ++ 34 ∷ bs))) (and_false (eqb b 92))
         ∙ ap (λ o. option_map (λ n. n + 1) o) rest)
         ∙ ap (λ k. Some k) (omega arith)
 
-    by : (q w : Bool) → eqb b 34 ≡ q → eqb b 92 ≡ w → eqb b 10 ≡ false → closing false (flat_map escaped s ++ 34 ∷ bs) ≡ Some (length (flat_map escaped s))
-        → closing false ((cond (q || w) (92 ∷ b ∷ []) (b ∷ []) ++ flat_map escaped s) ++ 34 ∷ bs) ≡ Some (length (cond (q || w) (92 ∷ b ∷ []) (b ∷ []) ++ flat_map escaped s))
+    by : (q w : Bool) → eqb b 34 ≡ q → eqb b 92 ≡ w → eqb b 10 ≡ false → closing false (flat_map escape_text s ++ 34 ∷ bs) ≡ Some (length (flat_map escape_text s))
+        → closing false ((cond (q || w) (92 ∷ b ∷ []) (b ∷ []) ++ flat_map escape_text s) ++ 34 ∷ bs) ≡ Some (length (cond (q || w) (92 ∷ b ∷ []) (b ∷ []) ++ flat_map escape_text s))
     by true w e f line rest = held line rest
     by false true e f line rest = held line rest
     by false false e f line rest =
-        closing_step false b (flat_map escaped s ++ 34 ∷ bs) line (ap (λ c. c && true) e)
-        ∙ ap (λ c. option_map (λ n. n + 1) (closing (c && true) (flat_map escaped s ++ 34 ∷ bs))) f
+        closing_step false b (flat_map escape_text s ++ 34 ∷ bs) line (ap (λ c. c && true) e)
+        ∙ ap (λ c. option_map (λ n. n + 1) (closing (c && true) (flat_map escape_text s ++ 34 ∷ bs))) f
         ∙ ap (λ o. option_map (λ n. n + 1) o) rest
         ∙ ap (λ k. Some k) (more _)
 
-pub unescaped_escaped : (s : List ℕ) → unescaped false (flat_map escaped s) ≡ s
-unescaped_escaped [] = refl
-unescaped_escaped (b ∷ s) = by (eqb b 34) (eqb b 92) refl refl (unescaped_escaped s)
+pub unescaped_escape_text : (s : List ℕ) → unescaped false (flat_map escape_text s) ≡ s
+unescaped_escape_text [] = refl
+unescaped_escape_text (b ∷ s) = by (eqb b 34) (eqb b 92) refl refl (unescaped_escape_text s)
   where
-    held : (eqb b 34) || (eqb b 92) ≡ true → unescaped false (flat_map escaped s) ≡ s → unescaped true (b ∷ flat_map escaped s) ≡ b ∷ s
-    held e rest = ap (λ c. cond c (b ∷ unescaped false (flat_map escaped s)) (92 ∷ b ∷ unescaped false (flat_map escaped s))) e ∙ ap (λ l. b ∷ l) rest
+    held : (eqb b 34) || (eqb b 92) ≡ true → unescaped false (flat_map escape_text s) ≡ s → unescaped true (b ∷ flat_map escape_text s) ≡ b ∷ s
+    held e rest = ap (λ c. cond c (b ∷ unescaped false (flat_map escape_text s)) (92 ∷ b ∷ unescaped false (flat_map escape_text s))) e ∙ ap (λ l. b ∷ l) rest
 
-    by : (q w : Bool) → eqb b 34 ≡ q → eqb b 92 ≡ w → unescaped false (flat_map escaped s) ≡ s → unescaped false (cond (q || w) (92 ∷ b ∷ []) (b ∷ []) ++ flat_map escaped s) ≡ b ∷ s
+    by : (q w : Bool) → eqb b 34 ≡ q → eqb b 92 ≡ w → unescaped false (flat_map escape_text s) ≡ s → unescaped false (cond (q || w) (92 ∷ b ∷ []) (b ∷ []) ++ flat_map escape_text s) ≡ b ∷ s
     by true w e f rest = held (ap (λ c. c || (eqb b 92)) e) rest
     by false true e f rest = held ((λ i. e i || f i)) rest
-    by false false e f rest = ap (λ c. cond c (unescaped true (flat_map escaped s)) (b ∷ unescaped false (flat_map escaped s))) f ∙ ap (λ l. b ∷ l) rest
+    by false false e f rest = ap (λ c. cond c (unescaped true (flat_map escape_text s)) (b ∷ unescaped false (flat_map escape_text s))) f ∙ ap (λ l. b ∷ l) rest
 
 at_quote : (bs : List ℕ) → token_at (34 ∷ bs) ≡ string_to (closing false bs) bs
 unfolding token_at string_token
 at_quote bs = refl
 
-pub string_at : (s bs : List ℕ) → is_line s ≡ true → token_at (quoted s ++ bs) ≡ (token.Str s, length (quoted s))
+pub string_at : (s bs : List ℕ) → is_line s ≡ true → token_at (quoted_text s ++ bs) ≡ (token.Str s, length (quoted_text s))
 unfolding is_line
 string_at s bs h =
-    let whole : (flat_map escaped s ++ 34 ∷ []) ++ bs ≡ flat_map escaped s ++ 34 ∷ bs = append_assoc (flat_map escaped s) (34 ∷ []) bs in
-    let long : length (flat_map escaped s) + 2 ≡ suc (length (flat_map escaped s ++ 34 ∷ [])) = omega (arith, length-append (flat_map escaped s) (34 ∷ [])) in
+    let whole : (flat_map escape_text s ++ 34 ∷ []) ++ bs ≡ flat_map escape_text s ++ 34 ∷ bs = append_assoc (flat_map escape_text s) (34 ∷ []) bs in
+    let long : length (flat_map escape_text s) + 2 ≡ suc (length (flat_map escape_text s ++ 34 ∷ [])) = omega (arith, length-append (flat_map escape_text s) (34 ∷ [])) in
     ap (λ l. token_at (34 ∷ l)) whole
-    ∙ at_quote (flat_map escaped s ++ 34 ∷ bs)
-    ∙ ap (λ o. string_to o (flat_map escaped s ++ 34 ∷ bs)) (closing_escaped s bs h)
-    ∙ ap (λ l. (token.Str (unescaped false l), length (flat_map escaped s) + 2)) (take_at (flat_map escaped s) (34 ∷ bs) _ refl)
-    ∙ ap (λ l. (token.Str l, length (flat_map escaped s) + 2)) (unescaped_escaped s)
+    ∙ at_quote (flat_map escape_text s ++ 34 ∷ bs)
+    ∙ ap (λ o. string_to o (flat_map escape_text s ++ 34 ∷ bs)) (closing_escape_text s bs h)
+    ∙ ap (λ l. (token.Str (unescaped false l), length (flat_map escape_text s) + 2)) (take_at (flat_map escape_text s) (34 ∷ bs) _ refl)
+    ∙ ap (λ l. (token.Str l, length (flat_map escape_text s) + 2)) (unescaped_escape_text s)
     ∙ ap (λ n. (token.Str s, n)) long

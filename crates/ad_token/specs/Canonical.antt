@@ -2,7 +2,7 @@
 use Rattle.std.specs.Prelude.{ℕ, ℤ, pos, negsuc, ◌==◌, ◌||◌, ◌&&◌, ◌^◌, not, Bool, true, false, List, [], ◌∷◌, ◌++◌, map, codes, nat_lt, slice_index, Option, Some, None, is_some}
 use Rattle.std.specs.Fmt.{signed_decimal}
 use Rattle.std.specs.List.{list_all}
-use Rattle.ad_value.specs.Literal.{quoted}
+use Rattle.ad_value.specs.Literal.{quoted_text}
 use Rattle.ad_tree.specs.declared.operator.BinOp.{BinOp}
 use Rattle.ad_tree.specs.declared.operator.BinOp.TheVariants as bin
 use Rattle.ad_tree.specs.declared.operator.Scope.{Scope}
@@ -43,7 +43,7 @@ token_text token.Error = codes "ERROR"
 token_text token.True = codes "TRUE"
 token_text token.False = codes "FALSE"
 token_text (token.Int n) = signed_decimal n
-token_text (token.Str s) = quoted s
+token_text (token.Str s) = quoted_text s
 token_text (token.Name scope x) = scope_text scope ++ x
 token_text (token.Op op) = operator_text op
 token_text token.Not = codes "!"

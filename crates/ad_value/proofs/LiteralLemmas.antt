@@ -8,74 +8,74 @@ use lib.Utf8.{encode, encodes, next}
 use Rattle.ad_value.specs.declared.value.Value.{Value}
 use Rattle.ad_value.specs.Content.{Content, content, contents_of}
 use Rattle.ad_value.proofs.ContentLemmas.{map-content-more}
-use Rattle.ad_value.specs.Literal.{escaped, literal, literals, more_literals, separator}
+use Rattle.ad_value.specs.Literal.{escape_text, literal_text, items_text, more_items_text, item_separator}
 
 -- a byte that is neither a quote nor a backslash is written as it is
-escaped-other : (b : ℕ) → b ≢ 34 → b ≢ 92 → escaped b ≡ b ∷ []
-escaped-other b quote backslash = search (rules, tests)
+escape_text-other : (b : ℕ) → b ≢ 34 → b ≢ 92 → escape_text b ≡ b ∷ []
+escape_text-other b quote backslash = search (rules, tests)
 
-escaped-high : (b : ℕ) → 128 ≤ b → escaped b ≡ b ∷ []
-escaped-high b h = escaped-other b (omega (arith, h)) (omega (arith, h))
+escape_text-high : (b : ℕ) → 128 ≤ b → escape_text b ≡ b ∷ []
+escape_text-high b h = escape_text-other b (omega (arith, h)) (omega (arith, h))
 
 -- so is a character
-pub flat_map-escaped-encode : (c : ℕ) → c ≢ 34 → c ≢ 92 → flat_map escaped (encode c) ≡ encode c
+pub flat_map-escape_text-encode : (c : ℕ) → c ≢ 34 → c ≢ 92 → flat_map escape_text (encode c) ≡ encode c
 unfolding encode
-flat_map-escaped-encode c quote backslash = by (ltb c 128) (ltb c 2048) (ltb c 65536)
+flat_map-escape_text-encode c quote backslash = by (ltb c 128) (ltb c 2048) (ltb c 65536)
   where
-    one : flat_map escaped (c ∷ []) ≡ c ∷ []
-    one = ap (λ l. l ++ []) (escaped-other c quote backslash)
+    one : flat_map escape_text (c ∷ []) ≡ c ∷ []
+    one = ap (λ l. l ++ []) (escape_text-other c quote backslash)
 
-    two : (x y : ℕ) → 128 ≤ x → 128 ≤ y → flat_map escaped (x ∷ y ∷ []) ≡ x ∷ y ∷ []
-    two x y p q = λ i. escaped-high x p i ++ (escaped-high y q i ++ [])
+    two : (x y : ℕ) → 128 ≤ x → 128 ≤ y → flat_map escape_text (x ∷ y ∷ []) ≡ x ∷ y ∷ []
+    two x y p q = λ i. escape_text-high x p i ++ (escape_text-high y q i ++ [])
 
-    by : (p q r : Bool) → let e = cond p (c ∷ []) (cond q ((192 + c / 64) ∷ next c ∷ []) (cond r ((224 + c / 4096) ∷ next (c / 64) ∷ next c ∷ []) ((240 + c / 262144) ∷ next (c / 4096) ∷ next (c / 64) ∷ next c ∷ []))) in flat_map escaped e ≡ e
+    by : (p q r : Bool) → let e = cond p (c ∷ []) (cond q ((192 + c / 64) ∷ next c ∷ []) (cond r ((224 + c / 4096) ∷ next (c / 64) ∷ next c ∷ []) ((240 + c / 262144) ∷ next (c / 4096) ∷ next (c / 64) ∷ next c ∷ []))) in flat_map escape_text e ≡ e
     by true q r = one
     by false true r = two _ _ (omega arith) (omega arith)
-    by false false true = λ i. escaped-high (224 + c / 4096) (omega arith) i ++ two (next (c / 64)) (next c) (omega arith) (omega arith) i
+    by false false true = λ i. escape_text-high (224 + c / 4096) (omega arith) i ++ two (next (c / 64)) (next c) (omega arith) (omega arith) i
     by false false false =
-        λ i. escaped-high (240 + c / 262144) (omega arith) i ++ (escaped-high (next (c / 4096)) (omega arith) i ++ two (next (c / 64)) (next c) (omega arith) (omega arith) i)
+        λ i. escape_text-high (240 + c / 262144) (omega arith) i ++ (escape_text-high (next (c / 4096)) (omega arith) i ++ two (next (c / 64)) (next c) (omega arith) (omega arith) i)
 
-pub escaped-quote : flat_map escaped (encode 34) ≡ 92 ∷ 34 ∷ []
+pub escape_text-quote : flat_map escape_text (encode 34) ≡ 92 ∷ 34 ∷ []
 unfolding encode
-escaped-quote = refl
+escape_text-quote = refl
 
-pub escaped-backslash : flat_map escaped (encode 92) ≡ 92 ∷ 92 ∷ []
+pub escape_text-backslash : flat_map escape_text (encode 92) ≡ 92 ∷ 92 ∷ []
 unfolding encode
-escaped-backslash = refl
+escape_text-backslash = refl
 
-pub ruleset escapes = (flat_map-escaped-encode, escaped-quote, escaped-backslash)
+pub ruleset escapes = (flat_map-escape_text-encode, escape_text-quote, escape_text-backslash)
 
 -- one character more
-pub escaped_more : (bs cs : List ℕ) (c : ℕ) → (bs ++ flat_map escaped (encodes cs)) ++ flat_map escaped (encode c) ≡ bs ++ flat_map escaped (encodes (cs ++ c ∷ []))
-escaped_more bs cs c =
-    append_assoc bs (flat_map escaped (encodes cs)) (flat_map escaped (encode c))
-    ∙ ap (λ l. bs ++ l) (sym (flat_map-append escaped (encodes cs) (encode c)))
-    ∙ ap (λ l. bs ++ flat_map escaped l) (ap (λ l. encodes cs ++ l) (sym (append-nil (encode c))) ∙ sym (encodes-append cs (c ∷ [])))
+pub escape_text_more : (bs cs : List ℕ) (c : ℕ) → (bs ++ flat_map escape_text (encodes cs)) ++ flat_map escape_text (encode c) ≡ bs ++ flat_map escape_text (encodes (cs ++ c ∷ []))
+escape_text_more bs cs c =
+    append_assoc bs (flat_map escape_text (encodes cs)) (flat_map escape_text (encode c))
+    ∙ ap (λ l. bs ++ l) (sym (flat_map-append escape_text (encodes cs) (encode c)))
+    ∙ ap (λ l. bs ++ flat_map escape_text l) (ap (λ l. encodes cs ++ l) (sym (append-nil (encode c))) ∙ sym (encodes-append cs (c ∷ [])))
 
-separator-suc : (i : ℕ) → separator (suc i) ≡ codes ", "
-separator-suc i = search (rules, tests)
+item_separator-suc : (i : ℕ) → item_separator (suc i) ≡ codes ", "
+item_separator-suc i = search (rules, tests)
 
-more-push : (cs : List Content) (c : Content) → more_literals (contents_of (cs ++ c ∷ [])) ≡ more_literals (contents_of cs) ++ (codes ", " ++ literal c)
-more-push [] c = append-nil (codes ", " ++ literal c)
-more-push (x ∷ cs) c = ap (λ l. (codes ", " ++ literal x) ++ l) (more-push cs c) ∙ sym (append_assoc (codes ", " ++ literal x) (more_literals (contents_of cs)) (codes ", " ++ literal c))
+more_items_text-push : (cs : List Content) (c : Content) → more_items_text (contents_of (cs ++ c ∷ [])) ≡ more_items_text (contents_of cs) ++ (codes ", " ++ literal_text c)
+more_items_text-push [] c = append-nil (codes ", " ++ literal_text c)
+more_items_text-push (x ∷ cs) c = ap (λ l. (codes ", " ++ literal_text x) ++ l) (more_items_text-push cs c) ∙ sym (append_assoc (codes ", " ++ literal_text x) (more_items_text (contents_of cs)) (codes ", " ++ literal_text c))
 
 -- one item more
-literals-push : (cs : List Content) (c : Content) → 0 < length cs → literals (contents_of (cs ++ c ∷ [])) ≡ literals (contents_of cs) ++ (codes ", " ++ literal c)
-literals-push [] c some = absurd (omega (arith, some))
-literals-push (x ∷ cs) c some = ap (λ l. literal x ++ l) (more-push cs c) ∙ sym (append_assoc (literal x) (more_literals (contents_of cs)) (codes ", " ++ literal c))
+items_text-push : (cs : List Content) (c : Content) → 0 < length cs → items_text (contents_of (cs ++ c ∷ [])) ≡ items_text (contents_of cs) ++ (codes ", " ++ literal_text c)
+items_text-push [] c some = absurd (omega (arith, some))
+items_text-push (x ∷ cs) c some = ap (λ l. literal_text x ++ l) (more_items_text-push cs c) ∙ sym (append_assoc (literal_text x) (more_items_text (contents_of cs)) (codes ", " ++ literal_text c))
 
 -- one item more, with what stands before it
-literals-more : (cs : List Content) (i : ℕ) (c : Content) → length cs ≡ i → literals (contents_of (cs ++ c ∷ [])) ≡ (literals (contents_of cs) ++ separator i) ++ literal c
-literals-more [] zero c e = append-nil (literal c)
-literals-more [] (suc i) c e = absurd (omega (arith, e))
-literals-more (x ∷ cs) zero c e = absurd (omega (arith, e))
-literals-more (x ∷ cs) (suc i) c e =
-    literals-push (x ∷ cs) c (omega arith) ∙ sym (append_assoc (literals (contents_of (x ∷ cs))) (codes ", ") (literal c)) ∙ ap (λ l. (literals (contents_of (x ∷ cs)) ++ l) ++ literal c) (sym (separator-suc i))
+items_text-more : (cs : List Content) (i : ℕ) (c : Content) → length cs ≡ i → items_text (contents_of (cs ++ c ∷ [])) ≡ (items_text (contents_of cs) ++ item_separator i) ++ literal_text c
+items_text-more [] zero c e = append-nil (literal_text c)
+items_text-more [] (suc i) c e = absurd (omega (arith, e))
+items_text-more (x ∷ cs) zero c e = absurd (omega (arith, e))
+items_text-more (x ∷ cs) (suc i) c e =
+    items_text-push (x ∷ cs) c (omega arith) ∙ sym (append_assoc (items_text (contents_of (x ∷ cs))) (codes ", ") (literal_text c)) ∙ ap (λ l. (items_text (contents_of (x ∷ cs)) ++ l) ++ literal_text c) (sym (item_separator-suc i))
 
-pub literals_more : (bs : List ℕ) (vs : List Value) (i : ℕ) (v : Value) → i < length vs → v ≡ get_or vs i v → ((bs ++ literals (contents_of (map content (take i vs)))) ++ separator i) ++ literal (content v) ≡ bs ++ literals (contents_of (map content (take (i + 1) vs)))
-literals_more bs vs i v p at =
-    let whole = literals-more (map content (take i vs)) i (content v) (length-map (take i vs) content ∙ length-take-le i vs (omega arith)) in
-    ap (λ l. l ++ literal (content v)) (append_assoc bs (literals (contents_of (map content (take i vs)))) (separator i))
-    ∙ append_assoc bs (literals (contents_of (map content (take i vs))) ++ separator i) (literal (content v))
+pub items_text_more : (bs : List ℕ) (vs : List Value) (i : ℕ) (v : Value) → i < length vs → v ≡ get_or vs i v → ((bs ++ items_text (contents_of (map content (take i vs)))) ++ item_separator i) ++ literal_text (content v) ≡ bs ++ items_text (contents_of (map content (take (i + 1) vs)))
+items_text_more bs vs i v p at =
+    let whole = items_text-more (map content (take i vs)) i (content v) (length-map (take i vs) content ∙ length-take-le i vs (omega arith)) in
+    ap (λ l. l ++ literal_text (content v)) (append_assoc bs (items_text (contents_of (map content (take i vs)))) (item_separator i))
+    ∙ append_assoc bs (items_text (contents_of (map content (take i vs))) ++ item_separator i) (literal_text (content v))
     ∙ ap (λ l. bs ++ l) (sym whole)
-    ∙ ap (λ cs. bs ++ literals (contents_of cs)) (sym (map-content-more vs i v p at))
+    ∙ ap (λ cs. bs ++ items_text (contents_of cs)) (sym (map-content-more vs i v p at))

@@ -23,9 +23,9 @@ abbrev pub contents_of : List Content → Contents
 contents_of [] = no_contents
 contents_of (c ∷ cs) = and_content c (contents_of cs)
 
-abbrev pub listed : Contents → List Content
-listed no_contents = []
-listed (and_content c cs) = c ∷ listed cs
+abbrev pub list_content : Contents → List Content
+list_content no_contents = []
+list_content (and_content c cs) = c ∷ list_content cs
 
 abbrev pub content_step : Value-F Content (List Content) → Content
 content_step Value-F.Undefined = undefined
@@ -44,9 +44,10 @@ content = fold-Value Content (List Content) content_step contents_step
 abbrev pub contents : ValueList → List Content
 contents = fold-ValueList Content (List Content) content_step contents_step
 
-pub listed-contents_of : (cs : List Content) → listed (contents_of cs) ≡ cs
-listed-contents_of [] = refl
-listed-contents_of (c ∷ cs) = ap (λ l. c ∷ l) (listed-contents_of cs)
+pub list_content-contents_of : (cs : List Content) → list_content (contents_of cs) ≡ cs
+list_content-contents_of [] = refl
+list_content-contents_of (c ∷ cs) = ap (λ l. c ∷ l) (list_content-contents_of cs)
 
 pub contents_of-injective : (cs ds : List Content) → contents_of cs ≡ contents_of ds → cs ≡ ds
-contents_of-injective cs ds e = sym (listed-contents_of cs) ∙ ap listed e ∙ listed-contents_of ds
+contents_of-injective cs ds e =
+    sym (list_content-contents_of cs) ∙ ap list_content e ∙ list_content-contents_of ds

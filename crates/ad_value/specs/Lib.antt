@@ -1,3 +1,5 @@
 pub mod Content
+pub mod Names
 pub mod Order
+pub mod Writing
 pub mod Literal

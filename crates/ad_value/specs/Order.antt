@@ -1,4 +1,5 @@
--- How two values stand to each other (HTCondor manual, "ClassAd evaluation semantics", comparisons).
+-- How two values stand to each other (HTCondor manual, "ClassAd evaluation semantics",
+-- comparisons).
 use Rattle.std.specs.Prelude.{ℕ, ℤ, pos, Bool, true, false, List, int_lt, if◌then◌else◌, chars, encode_utf8_all}
 use Rattle.std.specs.Ordering.{nat_cmp, int_eq}
 use Rattle.std.specs.Cmp.Lexicographic.{slice_cmp}
@@ -10,11 +11,14 @@ use Rattle.ad_value.specs.declared.order.Order.TheVariants as order
 use Rattle.ad_value.specs.Content.{Content, undefined, error, truth, integer, text, items}
 
 -- the bytes of a text after default case folding
-abbrev pub folded : List ℕ → List ℕ
-folded bytes = encode_utf8_all (default_case_fold (chars bytes))
+abbrev pub folded_text : List ℕ → List ℕ
+folded_text bytes = encode_utf8_all (default_case_fold (chars bytes))
 
 abbrev pub number_order : ℤ → ℤ → Order
-number_order a b = if int_lt a b then order.Less else (if int_eq a b then order.Equal else order.Greater)
+number_order a b =
+    if int_lt a b then order.Less
+    else (if int_eq a b then order.Equal
+    else order.Greater)
 
 abbrev pub as_order : Ordering → Order
 as_order ordering.Less = order.Less
@@ -22,7 +26,7 @@ as_order ordering.Equal = order.Equal
 as_order ordering.Greater = order.Greater
 
 abbrev pub text_order : List ℕ → List ℕ → Order
-text_order a b = as_order (slice_cmp nat_cmp (folded a) (folded b))
+text_order a b = as_order (slice_cmp nat_cmp (folded_text a) (folded_text b))
 
 -- a truth value counts 1 or 0
 abbrev pub number_of : Bool → ℤ

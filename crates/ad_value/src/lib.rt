@@ -1,4 +1,5 @@
-//! The small data that every other crate speaks of: values, texts, and lists that contracts see as lists.
+//! The small data that every other crate speaks of: values, texts, and lists that contracts see as
+//! lists.
 #![tactic(auto)]
 
 mod literal;
@@ -9,6 +10,7 @@ mod text;
 mod user_number;
 mod value;
 
+pub use literal::write_item_separator;
 pub use memory::Memory;
 pub use order::{Order, fold_eq};
 pub use seq::{Copied, Seq};

@@ -1,7 +1,8 @@
-ghost use Rattle.std.specs.Prelude.{◌≡◌, ◌++◌, IfOk, OnOk, string_bytes, encode_utf8};
+ghost use Rattle.std.specs.Prelude.{◌≡◌, IfOk, OnOk, OnErr, encode_utf8, string_bytes};
 ghost use Rattle.std.specs.List.{flat_map};
 ghost use Rattle.ad_value.specs.Content.{content, contents, contents_of};
-ghost use Rattle.ad_value.specs.Literal.{literal, literals, separator, integer_text, quoted, escaped};
+ghost use Rattle.ad_value.specs.Literal.{literal_text, items_text, item_separator, integer_text, quoted_text, escape_text};
+ghost use Rattle.ad_value.specs.Writing.{AddsText};
 
 use crate::memory::Memory;
 use crate::text::Text;
@@ -10,10 +11,10 @@ use itoa::Buffer;
 use std::alloc::Global;
 
 impl Value {
-    /// The literal in an expression's canonical text. The least integer has none of its own and is written
-    /// `-9223372036854775807 - 1`.
+    /// The literal in an expression's canonical text. The least integer has none of its own and is
+    /// written `-9223372036854775807 - 1`. Computes in O(bytes of the text).
     pub fn text(&self, alloc: Global) -> Result<Text, Memory>
-        ensures { IfOk result (λ t. t ≡ literal (content self.now)) }
+        ensures { IfOk result (λ t. t ≡ literal_text (content self.now)) }
     {
         let mut text = String::new(alloc);
         self.write(&mut text)?;
@@ -22,7 +23,7 @@ impl Value {
 
     #[cycle(write)]
     fn write(&self, text: &mut String) -> Result<(), Memory>
-        ensures { OnOk result (string_bytes text.new ≡ string_bytes text.old ++ literal (content self.now)) }
+        ensures { OnOk result (AddsText text.old text.new (literal_text (content self.now))) }
     {
         match self {
             Value::Undefined => Ok(text.push_str("UNDEFINED")?),
@@ -43,28 +44,31 @@ impl Value {
 impl ValueList {
     #[cycle(write)]
     fn write(&self, text: &mut String) -> Result<(), Memory>
-        ensures { OnOk result (string_bytes text.new ≡ string_bytes text.old ++ literals (contents_of (contents self.now))) }
+        ensures { OnOk result (
+            AddsText text.old text.new (items_text (contents_of (contents self.now)))) }
     {
         for (i, item) in self.items.iter().enumerate() {
-            write_separator(text, i)?;
+            write_item_separator(text, i)?;
             item.write(text)?;
         }
         Ok(())
     }
 }
 
-// What stands before the item at a place.
-fn write_separator(text: &mut String, i: usize) -> Result<(), Memory>
-    ensures { OnOk result (string_bytes text.new ≡ string_bytes text.old ++ separator i) }
+/// Writes what stands before the item at a place of a list: nothing before the first, `, ` before
+/// the others. Computes in O(1) on average. An error leaves the text as it was.
+pub fn write_item_separator(text: &mut String, place: usize) -> Result<(), Memory>
+    ensures ok { OnOk result (AddsText text.old text.new (item_separator place)) }
+    ensures err { OnErr result (string_bytes text.new ≡ string_bytes text.old) }
 {
-    if i == 0 {
+    if place == 0 {
         return Ok(());
     }
     Ok(text.push_str(", ")?)
 }
 
 fn write_integer(text: &mut String, n: i64) -> Result<(), Memory>
-    ensures { OnOk result (string_bytes text.new ≡ string_bytes text.old ++ integer_text n) }
+    ensures { OnOk result (AddsText text.old text.new (integer_text n)) }
 {
     if n == i64::MIN {
         return Ok(text.push_str("-9223372036854775807 - 1")?);
@@ -74,7 +78,7 @@ fn write_integer(text: &mut String, n: i64) -> Result<(), Memory>
 }
 
 fn write_quoted(text: &mut String, s: &str) -> Result<(), Memory>
-    ensures { OnOk result (string_bytes text.new ≡ string_bytes text.old ++ quoted s.now) }
+    ensures { OnOk result (AddsText text.old text.new (quoted_text s.now)) }
 {
     text.push('"')?;
     for c in s.chars() {
@@ -85,7 +89,7 @@ fn write_quoted(text: &mut String, s: &str) -> Result<(), Memory>
 
 #[tactic(auto, using(crate::proofs::LiteralLemmas::escapes))]
 fn write_escaped(text: &mut String, c: char) -> Result<(), Memory>
-    ensures { OnOk result (string_bytes text.new ≡ string_bytes text.old ++ flat_map escaped (encode_utf8 c)) }
+    ensures { OnOk result (AddsText text.old text.new (flat_map escape_text (encode_utf8 c))) }
 {
     match c {
         '"' => Ok(text.push_str("\\\"")?),

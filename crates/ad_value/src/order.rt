@@ -1,6 +1,6 @@
 ghost use Rattle.std.specs.Prelude.{◌≡◌, ◌↔◌, IfOk, IsTrue};
 ghost use Rattle.ad_value.specs.Content.{content};
-ghost use Rattle.ad_value.specs.Order.{order_of, number_order, text_order, folded};
+ghost use Rattle.ad_value.specs.Order.{order_of, number_order, text_order, folded_text};
 
 use crate::memory::Memory;
 use crate::value::Value;
@@ -13,15 +13,18 @@ pub enum Order {
     Less,
     Equal,
     Greater,
-    /// One of them is undefined.
+    /// One of them is undefined, and neither is an error or a list.
     Undefined,
-    /// One of them is an error or a list, or a string stands against a number.
+    /// One of them is an error or a list, or a string stands against a number or a truth value.
     Error,
 }
 
 impl Value {
-    /// How the value stands to another one. A truth value counts 1 or 0, and texts compare by the bytes of their folded texts.
-    /// That an error, a list, or a string against a number counts before an undefined value is this project's own choice.
+    /// How the value stands to another one: `Error` where either is an error or a list, else
+    /// `Undefined` where either is undefined, else `Error` where a string stands against a number
+    /// or a truth value. A truth value counts 1 or 0, and strings compare by the bytes of their
+    /// texts after default case folding. That an error or a list counts before an undefined value
+    /// is this project's own choice. Computes in O(1), of two strings in O(bytes).
     pub fn order(&self, alloc: Global, other: &Value) -> Result<Order, Memory>
         ensures { IfOk result (λ o. o ≡ order_of (content self.now) (content other.now)) }
     {
@@ -65,8 +68,9 @@ fn order_texts(alloc: Global, a: &str, b: &str) -> Result<Order, Memory>
 }
 
 /// Whether two texts are equal after default case folding (The Unicode Standard, section 3.13).
+/// Computes in O(bytes).
 pub fn fold_eq(alloc: Global, a: &str, b: &str) -> Result<bool, Memory>
-    ensures { IfOk result (λ same. IsTrue same ↔ (folded a.now ≡ folded b.now)) }
+    ensures { IfOk result (λ same. IsTrue same ↔ (folded_text a.now ≡ folded_text b.now)) }
 {
     let a = caseless::default_case_fold_str(alloc, a)?;
     let b = caseless::default_case_fold_str(alloc, b)?;

@@ -6,6 +6,7 @@ use std::marker::Model;
 
 /// Plain data of which an equal value can be made, where there is memory.
 pub trait Copied: Drop {
+    /// An equal value. Computes in O(size).
     fn copy(&self, alloc: Global) -> Result<Self, Memory>
         ensures { IfOk result (λ c. c ≡ self.now) };
 }
@@ -25,7 +26,7 @@ impl<T> Model for Seq<T> {
 }
 
 impl<T> Seq<T> {
-    /// The empty list.
+    /// The empty list, without memory. Computes in O(1).
     pub fn new(alloc: Global) -> Self
         ensures { result ≡ [] }
     {
@@ -34,14 +35,14 @@ impl<T> Seq<T> {
         }
     }
 
-    /// Takes no memory.
+    /// The list of these items, without memory. Computes in O(1).
     pub fn from_vec(items: Vec<T>) -> Self
         ensures { result ≡ items.items }
     {
         Seq { items }
     }
 
-    /// Takes no memory.
+    /// The items, without memory. Computes in O(1).
     pub fn into_vec(self) -> Vec<T>
         ensures { result.items ≡ self }
     {
@@ -49,18 +50,21 @@ impl<T> Seq<T> {
         items
     }
 
+    /// The items as a slice. Computes in O(1).
     pub fn as_slice(&self) -> &[T]
         ensures { result.now ≡ self.now }
     {
         self.items.as_slice()
     }
 
+    /// How many items there are. Computes in O(1).
     pub fn len(&self) -> usize
         ensures { result ≡ length self.now }
     {
         self.items.len()
     }
 
+    /// Whether there are no items. Computes in O(1).
     pub fn is_empty(&self) -> bool
         ensures { IsTrue result ↔ (self.now ≡ []) }
     {
@@ -69,7 +73,8 @@ impl<T> Seq<T> {
 }
 
 impl<T: Drop> Seq<T> {
-    /// Adds an item at the end; a refused one is dropped.
+    /// Adds an item at the end. Computes in O(1) on average. An error leaves the list as it was,
+    /// and the item is dropped.
     pub fn push(&mut self, item: T) -> Result<(), Memory>
         ensures ok { OnOk result (self.new ≡ self.old ++ item ∷ []) }
         ensures err { OnErr result (self.new ≡ self.old) }

@@ -24,7 +24,7 @@ impl Model for Text {
 pub type TextList = Seq<Text>;
 
 impl Text {
-    /// The empty text.
+    /// The empty text, without memory. Computes in O(1).
     pub fn new(alloc: Global) -> Text
         ensures { result ≡ [] }
     {
@@ -33,6 +33,7 @@ impl Text {
         }
     }
 
+    /// The text of a `str`. Computes in O(bytes).
     pub fn from_str(alloc: Global, text: &str) -> Result<Text, Memory>
         ensures { IfOk result (λ t. t ≡ text.now) }
     {
@@ -41,12 +42,14 @@ impl Text {
         })
     }
 
+    /// The text as a `str`. Computes in O(1).
     pub fn as_str(&self) -> &str
         ensures { result.now ≡ self.now }
     {
         self.inner.as_str()
     }
 
+    /// Whether there are no bytes. Computes in O(1).
     pub fn is_empty(&self) -> bool
         ensures { IsTrue result ↔ (self.now ≡ []) }
     {

@@ -6,6 +6,7 @@ use std::alloc::Global;
 /// A number that a user was given.
 #[derive(Debug, Drop)]
 pub struct UserNumber {
+    /// The user's name, with case.
     pub user: Text,
     pub number: u32,
 }

@@ -12,21 +12,25 @@ use std::alloc::Global;
 pub enum Value {
     Undefined,
     Error,
+    /// A truth value.
     Bool(bool),
+    /// An integer.
     Int(i64),
+    /// A string.
     Str(Text),
     List(ValueList),
 }
 
-/// A list of values, made of a `Vec` and taken apart again without memory.
+/// A list of values, made of a `Vec` and taken apart again in O(1), without memory.
 #[cycle(value)]
 #[derive(Debug, Drop)]
 pub struct ValueList {
+    /// The values, in order.
     pub items: Vec<Value>,
 }
 
 impl Value {
-    /// An equal value.
+    /// An equal value. Computes in O(size).
     #[cycle(copy)]
     pub fn copy(&self, alloc: Global) -> Result<Value, Memory>
         ensures { IfOk result (λ v. content v ≡ content self.now) }
@@ -41,7 +45,8 @@ impl Value {
         }
     }
 
-    /// Whether both have the same kind and content, as `=?=` asks: strings with case, lists item by item.
+    /// Whether both have the same kind and content, as `=?=` asks: strings with case, lists item by
+    /// item. Computes in O(size of the smaller).
     #[cycle(same)]
     pub fn same(&self, other: &Value) -> bool
         ensures { IsTrue result ↔ (content self.now ≡ content other.now) }
@@ -59,7 +64,7 @@ impl Value {
 }
 
 impl ValueList {
-    /// An equal list.
+    /// An equal list. Computes in O(size).
     #[cycle(copy)]
     pub fn copy(&self, alloc: Global) -> Result<ValueList, Memory>
         ensures { IfOk result (λ l. contents l ≡ contents self.now) }
@@ -71,7 +76,8 @@ impl ValueList {
         Ok(ValueList { items })
     }
 
-    /// Whether both have the same items, each compared by `Value::same`.
+    /// Whether both have the same items, each compared by `Value::same`. Computes in O(size of the
+    /// smaller).
     #[cycle(same)]
     pub fn same(&self, other: &ValueList) -> bool
         ensures { IsTrue result ↔ (contents self.now ≡ contents other.now) }

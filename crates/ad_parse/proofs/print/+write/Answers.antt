@@ -1,7 +1,7 @@
 -- Each turn writes one operand or item more, and at the end there are all of them.
 use Rattle.std.proofs.Common.{◌≡◌, arith, rules, sym, ap, ◌∙◌, ◌++◌, ◌-◌, string_bytes, map, take, get_or, append_assoc}
 use Rattle.std.proofs.lemmas.List.{take_all}
-use Rattle.ad_value.specs.Literal.{separator}
+use Rattle.ad_value.specs.Literal.{item_separator}
 use Rattle.ad_tree.specs.declared.tree.Expr.{the_lemmas}
 use Rattle.ad_tree.specs.Tree.{tree, trees_of, rest, rests_of}
 use Rattle.ad_parse.specs.Operators.{level_of}
@@ -12,7 +12,7 @@ use Rattle.ad_parse.proofs.print.+write.Goals as goal
 pub write_items-loop-i-preserved : goal.write_items-loop-i-preserved
 write_items-loop-i-preserved t c =
     let here = c.item-item.is ∙ ap (λ l. get_or l c.loop-i.i c.item-item.result) c.deref-item-items.ensures.value in
-    c.in_ok-write_expr.ensures ∙ ap (λ l. l ++ canon (tree c.item-item.result)) (c.in_ok-write_separator.ensures ∙ ap (λ l. l ++ separator c.loop-i.i) c.loop-i.invariant) ∙ items_more (string_bytes c.args.text.now) c.args.list.now.items.items c.loop-i.i c.item-item.result (omega arith) here
+    c.in_ok-write_expr.ensures ∙ ap (λ l. l ++ canon (tree c.item-item.result)) (c.in_ok-write_item_separator.ensures.ok ∙ ap (λ l. l ++ item_separator c.loop-i.i) c.loop-i.invariant) ∙ items_more (string_bytes c.args.text.now) c.args.list.now.items.items c.loop-i.i c.item-item.result (omega arith) here
 
 pub write_items-returns : goal.write_items-returns
 write_items-returns t c =

@@ -1,4 +1,4 @@
--- The copy so far has the contents of the front of the list.
+-- The copy so far has the contents of the items so far.
 use Rattle.std.proofs.Common.{◌≡◌, map, take}
 use Rattle.ad_value.specs.Content.{content}
 use Rattle.ad_value.proofs.value.+copy.Given as goal

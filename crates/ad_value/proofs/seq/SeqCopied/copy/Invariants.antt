@@ -1,4 +1,4 @@
--- The copy so far is the front of the list.
+-- The copy so far is a prefix of the list.
 use Rattle.std.proofs.Common.{◌≡◌, take}
 use Rattle.ad_value.proofs.seq.SeqCopied.copy.Given as goal
 
