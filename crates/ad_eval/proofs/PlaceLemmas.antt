@@ -3,7 +3,7 @@ use Rattle.std.proofs.Common.{◌≡◌, ◌↔◌, ℕ, List, [], Some, IsTrue,
 use Rattle.std.specs.Cmp.Lexicographic.{bytes_decides}
 use Rattle.std.specs.Str.{bytes_eq}
 use Rattle.std.proofs.lemmas.List.Quantifiers.{position-Some}
-use Rattle.ad_tree.specs.Name.{lowercase, same_name}
+use Rattle.ad_value.specs.Names.{lowercase, same_name}
 use Rattle.ad_tree.specs.Ad.{Attributes, names, place_of}
 
 name_at : (ad : Attributes) (x : List ℕ) (i : ℕ) → place_of x ad ≡ Some i → lowercase x ≡ lowercase (get_or (names ad) i [])

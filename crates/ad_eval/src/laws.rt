@@ -1,7 +1,7 @@
 ghost use Rattle.std.specs.Prelude.{◌≡◌, ◌↔◌, ℕ, true, false, IsTrue, List, Some, Contains};
 ghost use Rattle.std.specs.List.{All};
 ghost use Rattle.ad_tree.specs.Ad.{Attributes, place_of};
-ghost use Rattle.ad_tree.specs.Name.{same_name};
+ghost use Rattle.ad_value.specs.Names.{same_name};
 ghost use Rattle.ad_eval.specs.Match.{matches, requirements_hold};
 
 use crate::judging::Judged;

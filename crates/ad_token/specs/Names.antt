@@ -2,7 +2,7 @@
 use Rattle.std.specs.Prelude.{ℕ, ◌+◌, ◌==◌, ◌||◌, Bool, List, [], ◌∷◌, length, take, drop, codes, nat_lt, slice_index, Option, Some, None, is_some, if◌then◌else◌}
 use Rattle.std.specs.Char.{is_ascii_alphabetic, is_ascii_digit}
 use Rattle.std.specs.List.{prefix_len}
-use Rattle.ad_tree.specs.Name.{same_name}
+use Rattle.ad_value.specs.Names.{same_name}
 use Rattle.ad_tree.specs.declared.operator.BinOp.TheVariants as bin
 use Rattle.ad_tree.specs.declared.operator.Scope.{Scope}
 use Rattle.ad_tree.specs.declared.operator.Scope.TheVariants.{Bare, My, Target}

@@ -9,7 +9,7 @@ use Rattle.indexmap.specs.IndexMap.{insert_entry, shift_remove_entry, set_value_
 use Rattle.indexmap.proofs.MapLemmas.{insert_entry-first, Found-position}
 use Rattle.ad_tree.specs.declared.tree.Expr.{Expr}
 use Rattle.ad_tree.specs.Tree.{Tree, tree}
-use Rattle.ad_tree.specs.Name.{same_name}
+use Rattle.ad_value.specs.Names.{same_name}
 use Rattle.ad_tree.specs.NameLaws.{same_name_equivalence}
 use Rattle.ad_tree.specs.Ad.{Attributes, named_trees, names, lookup, with_attribute, without, AreDistinct}
 
@@ -146,14 +146,14 @@ with_attribute-new x e (a ∷ ad) none =
     parts : (same_name x a.0 ≡ false) × (lookup x ad ≡ None)
     parts = none_at (same_name x a.0) a.1 (lookup x ad) none
 
-absent_behind : (y : List ℕ) (ad : Attributes) (a : List ℕ × Tree) (more : Attributes) → lookup y (ad ++ a ∷ more) ≡ None → same_name y a.0 ≡ false
-absent_behind y [] a more none = (none_at (same_name y a.0) a.1 (lookup y more) none).0
-absent_behind y (b ∷ ad) a more none = absent_behind y ad a more (none_at (same_name y b.0) b.1 (lookup y (ad ++ a ∷ more)) none).1
+absent_at_next : (y : List ℕ) (ad : Attributes) (a : List ℕ × Tree) (more : Attributes) → lookup y (ad ++ a ∷ more) ≡ None → same_name y a.0 ≡ false
+absent_at_next y [] a more none = (none_at (same_name y a.0) a.1 (lookup y more) none).0
+absent_at_next y (b ∷ ad) a more none = absent_at_next y ad a more (none_at (same_name y b.0) b.1 (lookup y (ad ++ a ∷ more)) none).1
 
 -- a name of an ad is not met before its place
 pub lookup-before : (ad : Attributes) (a : List ℕ × Tree) (more : Attributes) → AreDistinct (ad ++ a ∷ more) → lookup a.0 ad ≡ None
 lookup-before [] a more h = refl
-lookup-before (b ∷ ad) a more h = at_none (same_name a.0 b.0) b.1 (lookup a.0 ad) (other_way b.0 a.0 (absent_behind b.0 ad a more h.0)) (lookup-before ad a more h.1)
+lookup-before (b ∷ ad) a more h = at_none (same_name a.0 b.0) b.1 (lookup a.0 ad) (other_way b.0 a.0 (absent_at_next b.0 ad a more h.0)) (lookup-before ad a more h.1)
 
 -- an ad that takes one attribute more, where it is not full for its name, has no more than 256
 pub length-with_attribute-within : (x : List ℕ) (e : Tree) (ad : Attributes) → ((lookup x ad ≡ None) × (length ad ≡ 256) → ⊥) → length ad ≤ 256 → length (with_attribute x e ad) ≤ 256
@@ -162,7 +162,7 @@ length-with_attribute-within x e ad room within = ⊎_elim (λ less. omega (arit
     full : 256 ≤ length ad → length (with_attribute x e ad) ≤ 256
     full h = omega (arith, length-with_attribute-there x e ad (λ none. room (none, omega arith)))
 
--- an attribute that is moved from the front of what is left to the end of what is done
+-- an attribute that is moved from the beginning of what is left to the end of what is done
 pub copied_more : (done : Attributes) (a : List ℕ × Tree) (more whole : Attributes) → done ++ a ∷ more ≡ whole → AreDistinct whole → with_attribute a.0 a.1 done ++ more ≡ whole
 copied_more done a more whole e distinct =
     ap (λ l. l ++ more) (with_attribute-new a.0 a.1 done (lookup-before done a more (subst AreDistinct (sym e) distinct))) ∙ append_assoc done (a ∷ []) more ∙ e

@@ -1,9 +1,9 @@
-ghost use Rattle.std.specs.Prelude.{◌≡◌, ◌↔◌, ◌<◌, ◌≤◌, [], length, slice_get, None, IsSome, IsTrue, OnOk, OnErr, IsErrOf};
+ghost use Rattle.std.specs.Prelude.{◌≡◌, ◌↔◌, ◌≤◌, [], length, slice_get, IsSome, IsTrue, OnOk, OnErr, IsErrOf};
 ghost use Rattle.std.specs.Option.{option_map};
 ghost use Rattle.ad_tree.specs.Ad.{named_trees, with_attribute};
 ghost use Rattle.ad_tree.specs.Tree.{tree};
 
-use crate::name::{Asked, Name};
+use crate::name::{Name, NameKey};
 use crate::tree::Expr;
 use ad_value::{Copied, Memory, Seq};
 use indexmap::IndexMap;
@@ -15,8 +15,11 @@ use thiserror::Error;
 /// How many attributes an ad may have.
 pub const MAX_ATTRIBUTES: usize = 256;
 
-/// An ad: attributes in the order in which their names came. Names are equal without ASCII case, and contracts see the list of
-/// names and expressions.
+/// An ad: attributes in the order in which their names came. Names are equal without ASCII case,
+/// and contracts see the list of names and expressions.
+///
+/// A look-up by name is fast where names do not collide in the table. Names can be made to collide,
+/// and then it takes O(attributes).
 pub struct Ad {
     attributes: IndexMap<Name, Expr>,
 }
@@ -35,7 +38,8 @@ pub type AdList = Seq<Ad>;
 /// Why an attribute was not set.
 #[derive(Clone, Copy, Debug, PartialEq, Eq, Error)]
 pub enum SetError {
-    #[error("the ad has 256 attributes")]
+    /// The name is new, and the ad has as many attributes as it may.
+    #[error("the ad has {max} attributes", max = MAX_ATTRIBUTES)]
     Full,
     #[error("out of memory")]
     Memory,
@@ -53,7 +57,7 @@ impl From<Memory> for SetError {
 }
 
 impl Model for Ad {
-    ghost use Rattle.std.specs.Prelude.{List, ℕ, length, ◌≤◌};
+    ghost use Rattle.std.specs.Prelude.{List, ℕ};
     ghost use Rattle.std.specs.Coded.{coded_list, coded×, coded_ℕ};
     ghost use Rattle.ad_tree.specs.Tree.{Tree};
     ghost use Rattle.ad_tree.specs.TreeCode.{tree_code};
@@ -62,18 +66,18 @@ impl Model for Ad {
 
     ghost coded = { coded_list (coded× (coded_list coded_ℕ) tree_code) };
 
-    ghost use Rattle.ad_tree.specs.Ad.{named_trees, AreDistinct};
+    ghost use Rattle.ad_tree.specs.Ad.{named_trees, IsAdTable};
 
     ghost view = { λ a. named_trees a.attributes.entries };
 
-    ghost invariant = { λ a. AreDistinct (named_trees a.attributes.entries) × (length a.attributes.entries ≤ 256) };
+    ghost invariant = { λ a. IsAdTable a.attributes.entries };
 }
 
 impl Ad {
-    ghost use Rattle.ad_tree.specs.Ad.{lookup, place_of, with_attribute, without, AreDistinct};
+    ghost use Rattle.ad_tree.specs.Ad.{lookup, place_of, with_attribute, without, AreDistinct, IsFullFor};
     ghost use Rattle.ad_tree.specs.Tree.{tree};
 
-    /// An ad without attributes, which takes no memory.
+    /// An ad without attributes, without memory. Computes in O(1).
     pub fn new(alloc: Global) -> Ad
         ensures { result ≡ [] }
     {
@@ -82,36 +86,39 @@ impl Ad {
         }
     }
 
-    /// How many attributes there are.
+    /// How many attributes there are. Computes in O(1).
     pub fn len(&self) -> usize
         ensures len { result ≡ length self.now }
-        ensures within { result ≤ 256 }
+        ensures within { result ≤ MAX_ATTRIBUTES }
         ensures distinct { AreDistinct self.now }
     {
         self.attributes.len()
     }
 
+    /// Whether there are no attributes. Computes in O(1).
     pub fn is_empty(&self) -> bool
         ensures { IsTrue result ↔ (self.now ≡ []) }
     {
         self.attributes.is_empty()
     }
 
-    /// The expression under a name, in time that does not grow with the ad, and without memory.
+    /// The expression under a name, without memory. Computes in O(bytes of the name) where names do
+    /// not collide.
     pub fn get(&self, name: &str) -> Option<&Expr>
         ensures { option_map (λ e. tree e.now) result ≡ lookup name.now self.now }
     {
-        self.attributes.get(Asked(name))
+        self.attributes.get(NameKey(name))
     }
 
-    /// The place of a name, in time that does not grow with the ad, and without memory.
+    /// The place of a name, without memory. Computes in O(bytes of the name) where names do not
+    /// collide.
     pub fn place(&self, name: &str) -> Option<usize>
         ensures { result ≡ place_of name.now self.now }
     {
-        self.attributes.get_index_of(Asked(name))
+        self.attributes.get_index_of(NameKey(name))
     }
 
-    /// The name and the expression at a place, in constant time.
+    /// The name and the expression at a place, without memory. Computes in O(1).
     pub fn attribute(&self, place: usize) -> Option<(&str, &Expr)>
         ensures { option_map (λ a. (a.0.now, tree a.1.now)) result ≡ slice_get self.now place }
     {
@@ -119,18 +126,20 @@ impl Ad {
         Some((name.as_str(), expr))
     }
 
-    /// Whether `set` would refuse the name as one too many.
+    /// Whether `set` would refuse the name as one too many, without memory. Computes in O(bytes of
+    /// the name) where names do not collide.
     pub fn is_full_for(&self, name: &str) -> bool
-        ensures { IsTrue result ↔ ((lookup name.now self.now ≡ None) × (length self.now ≡ 256)) }
+        ensures { IsTrue result ↔ IsFullFor name.now self.now }
     {
-        self.attributes.len() == MAX_ATTRIBUTES && !self.attributes.contains_key(Asked(name))
+        self.attributes.len() == MAX_ATTRIBUTES && !self.attributes.contains_key(NameKey(name))
     }
 
-    /// Puts an expression under a name, in time that does not grow with the ad. A name that is there keeps its place and spelling,
-    /// and a new one comes last.
+    /// Puts an expression under a name. A name that is there keeps its place and spelling, and a
+    /// new one comes last. Computes in O(bytes of the name) on average, where names do not collide.
+    /// An error leaves the ad as it was, and the expression is dropped.
     pub fn set(&mut self, alloc: Global, name: &str, expr: Expr) -> Result<(), SetError>
         ensures ok { OnOk result (self.new ≡ with_attribute name.now (tree expr) self.old) }
-        ensures full { IsErrOf result SetError.Full ↔ ((lookup name.now self.old ≡ None) × (length self.old ≡ 256)) }
+        ensures full { IsErrOf result SetError.Full ↔ IsFullFor name.now self.old }
         ensures err { OnErr result (self.new ≡ self.old) }
     {
         if self.is_full_for(name) {
@@ -140,21 +149,21 @@ impl Ad {
         Ok(())
     }
 
-    /// Takes a name out, if it is there; the rest keeps its order. The time grows with the number of attributes behind it, and no
-    /// memory is taken.
+    /// Takes a name out, if it is there, without memory; the rest keeps its order. Computes in
+    /// O(attributes after it).
     pub fn remove(&mut self, name: &str) -> bool
         ensures found { IsTrue result ↔ IsSome (lookup name.now self.old) }
         ensures rest { self.new ≡ without name.now self.old }
     {
-        self.attributes.shift_remove(Asked(name)).is_some()
+        self.attributes.shift_remove(NameKey(name)).is_some()
     }
 }
 
 impl Ad {
     ghost use Rattle.std.specs.Prelude.{slice_get};
 
-    /// Whether both have the same names, as they are spelled, and the same expressions, in the same order. Takes no memory, and
-    /// time that grows with the smaller of the two.
+    /// Whether both have the same names, as they are spelled, and the same expressions, in the same
+    /// order, without memory. Computes in O(size of the smaller).
     pub fn same(&self, other: &Ad) -> bool
         ensures { IsTrue result ↔ (self.now ≡ other.now) }
     {
@@ -183,16 +192,19 @@ impl Ad {
     }
 }
 
+// Puts an expression under a name of a table.
 fn put(
     attributes: &mut IndexMap<Name, Expr>,
     alloc: Global,
     name: &str,
     expr: Expr,
 ) -> Result<(), Memory>
-    ensures ok { OnOk result (named_trees attributes.new.entries ≡ with_attribute name.now (tree expr) (named_trees attributes.old.entries)) }
+    ensures ok { OnOk result (
+        named_trees attributes.new.entries
+        ≡ with_attribute name.now (tree expr) (named_trees attributes.old.entries)) }
     ensures err { OnErr result (attributes.new.entries ≡ attributes.old.entries) }
 {
-    if let Some(place) = attributes.get_index_of(Asked(name)) {
+    if let Some(place) = attributes.get_index_of(NameKey(name)) {
         attributes[place] = expr;
         return Ok(());
     }

@@ -2,7 +2,7 @@
 use Rattle.std.specs.Prelude.{◌≡◌, ℕ, true, not, List, [], ◌∷◌, codes, filter}
 use Rattle.std.specs.List.{list_any}
 use Rattle.ad_tree.specs.Ad.{Attributes}
-use Rattle.ad_tree.specs.Name.{same_name}
+use Rattle.ad_value.specs.Names.{same_name}
 use Rattle.ad_eval.specs.Judgement.{Judgement}
 use Rattle.ad_eval.specs.Match.{matches}
 

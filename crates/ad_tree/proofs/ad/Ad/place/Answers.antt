@@ -1,6 +1,6 @@
 use Rattle.std.proofs.Common.{ap, sym, ◌∙◌, position}
 use Rattle.ad_tree.specs.Ad.{place_of}
-use Rattle.ad_tree.specs.Name.{same_name}
+use Rattle.ad_value.specs.Names.{same_name}
 use Rattle.ad_tree.proofs.AdLemmas.{names-named_trees}
 use Rattle.ad_tree.proofs.ad.Ad.place.Goals as goal
 
