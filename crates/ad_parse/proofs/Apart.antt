@@ -19,7 +19,7 @@ use Rattle.ad_token.specs.declared.token.Bracket.{Bracket}
 use Rattle.ad_token.specs.declared.token.Bracket.TheVariants.{Round, Curly}
 use Rattle.ad_token.specs.declared.token.Token.{Token}
 use Rattle.ad_token.specs.declared.token.Token.TheVariants as token
-use Rattle.ad_token.specs.Names.{is_letter, is_name_byte, prefix_of}
+use Rattle.ad_token.specs.Names.{is_letter, is_name_byte, scope_of_prefix}
 use Rattle.ad_token.specs.Canonical.{is_name, is_proper, ends_before, joined_text, are_apart}
 use Rattle.ad_token.proofs.Pieces.{both, neither}
 use Rattle.ad_parse.specs.Operators.{level_of}
@@ -104,7 +104,7 @@ not_is true h = cc
 not_is false h = refl
 
 name_ends : (s : Scope) (x : List ℕ) (b : ℕ) → not (is_name_byte b || eqb b 46) ≡ true → ends_before (token.Name s x) b ≡ true
-name_ends Bare x b h = let p = neither (is_name_byte b) (eqb b 46) h in λ i. not (p.0 i || (p.1 i && is_some (prefix_of x)))
+name_ends Bare x b h = let p = neither (is_name_byte b) (eqb b 46) h in λ i. not (p.0 i || (p.1 i && is_some (scope_of_prefix x)))
 name_ends My x b h = not_is (is_name_byte b) (neither (is_name_byte b) (eqb b 46) h).0
 name_ends Target x b h = not_is (is_name_byte b) (neither (is_name_byte b) (eqb b 46) h).0
 

@@ -8,7 +8,7 @@ use Rattle.std.proofs.lemmas.List.Folds.{length-prefix_len}
 use Rattle.std.proofs.lemmas.List.Sums.{prefix_len_passes}
 use Rattle.std.specs.List.{prefix_len, suffix_len}
 use Rattle.ad_tree.specs.Ad.{Attributes, lookup}
-use Rattle.ad_token.specs.Names.{is_letter, is_name_byte, name_length, name_of, is_too_long, word_of}
+use Rattle.ad_token.specs.Names.{is_letter, is_name_byte, name_length, leading_name, is_too_long, word_of}
 use Rattle.ad_token.specs.Lexing.{is_blank}
 use Rattle.ad_parse.specs.AdText.{past_blanks, trimmed_end, trimmed, is_skipped, is_attribute_name, around_sign, setting_from, setting, is_full_for}
 use Rattle.ad_parse.specs.AdLines.{AreBlanks, IsSkipped, blank, comment, IsAttributeName, IsTrimmed, IsSetting, HasRoom}
@@ -123,7 +123,7 @@ module _ (line name text : List ℕ) (is : IsSetting line name text) where
   behind_name : past_blanks (drop (name_length (name ++ tail)) (name ++ tail)) ≡ 61 ∷ (is.between ++ (text ++ is.after))
   behind_name = ap (λ n. past_blanks (drop n (name ++ tail))) long ∙ ap past_blanks (drop-append_seam name tail) ∙ past_run is_blank is.behind _ is.blanks.1 (λ _. refl)
 
-  its_name : name_of (name ++ tail) ≡ name
+  its_name : leading_name (name ++ tail) ≡ name
   its_name = ap (λ n. take n (name ++ tail)) long ∙ take-append_seam name tail
 
   its_text : trimmed (is.between ++ (text ++ is.after)) ≡ text
@@ -180,13 +180,13 @@ some_is {A} x y e = ap in_some e
     in_some (Some z) = z
 
 -- what is read of the text behind the blanks
-module _ (bs : List ℕ) (good : is_attribute_name (name_of bs) ≡ true) where
-  of_name : (not (nat_eq (length (name_of bs)) 0) ≡ true) × ((not (is_too_long (name_of bs)) ≡ true) × (not (is_some (word_of (name_of bs))) ≡ true))
+module _ (bs : List ℕ) (good : is_attribute_name (leading_name bs) ≡ true) where
+  of_name : (not (nat_eq (length (leading_name bs)) 0) ≡ true) × ((not (is_too_long (leading_name bs)) ≡ true) × (not (is_some (word_of (leading_name bs))) ≡ true))
   of_name =
-      let p = and_parts (not (nat_eq (length (name_of bs)) 0)) _ good in
-      (p.0, and_parts (not (is_too_long (name_of bs))) _ p.1)
+      let p = and_parts (not (nat_eq (length (leading_name bs)) 0)) _ good in
+      (p.0, and_parts (not (is_too_long (leading_name bs))) _ p.1)
 
-  named : IsAttributeName (name_of bs)
+  named : IsAttributeName (leading_name bs)
   named = by (is_letter (get_or bs 0 0)) refl of_name
     where
       by : (b : Bool) → is_letter (get_or bs 0 0) ≡ b
@@ -212,14 +212,14 @@ bytes_behind bs = past_blanks (drop (name_length bs) bs)
 abbrev text_of : List ℕ → List ℕ
 text_of bs = past_blanks (drop 1 (bytes_behind bs))
 
-module _ (line bs : List ℕ) (past : bs ≡ past_blanks line) (good : is_attribute_name (name_of bs) ≡ true) (sign : get_or (bytes_behind bs) 0 0 ≡ 61) where
+module _ (line bs : List ℕ) (past : bs ≡ past_blanks line) (good : is_attribute_name (leading_name bs) ≡ true) (sign : get_or (bytes_behind bs) 0 0 ≡ 61) where
   back : (q : List ℕ) → q ≡ trimmed_end q ++ drop (length q - suffix_len is_blank q) q
   back q = sym (take-append-drop (length q - suffix_len is_blank q) q)
 
   front : (l : List ℕ) → l ≡ take (prefix_len is_blank l) l ++ past_blanks l
   front l = sym (take-append-drop (prefix_len is_blank l) l)
 
-  read_parts : IsSetting line (name_of bs) (trimmed_end (text_of bs))
+  read_parts : IsSetting line (leading_name bs) (trimmed_end (text_of bs))
   read_parts =
       let gap = drop (name_length bs) bs in
       let rest = drop 1 (bytes_behind bs) in
@@ -231,7 +231,7 @@ module _ (line bs : List ℕ) (past : bs ≡ past_blanks line) (good : is_attrib
         after = drop (length q - suffix_len is_blank q) q;
         parts =
             front line ∙ ap (λ l. take (prefix_len is_blank line) line ++ l) (sym past ∙ sym (take-append-drop (name_length bs) bs)
-            ∙ ap (λ l. name_of bs ++ l) (front gap
+            ∙ ap (λ l. leading_name bs ++ l) (front gap
             ∙ ap (λ l. take (prefix_len is_blank gap) gap ++ l) (sign_first (bytes_behind bs) sign
             ∙ ap (λ l. 61 ∷ l) (front rest ∙ ap (λ l. take (prefix_len is_blank rest) rest ++ l) (back q)))));
         blanks = (front_passes is_blank line, front_passes is_blank gap, front_passes is_blank rest, back_passes is_blank q);
@@ -243,14 +243,14 @@ module _ (line bs : List ℕ) (past : bs ≡ past_blanks line) (good : is_attrib
       }
 
 abbrev reading_of : List ℕ → List ℕ × List ℕ
-reading_of line = (name_of (past_blanks line), trimmed_end (text_of (past_blanks line)))
+reading_of line = (leading_name (past_blanks line), trimmed_end (text_of (past_blanks line)))
 
 pub setting_parts : (line name text : List ℕ) → setting line ≡ Some (name, text) → IsSetting line name text
-setting_parts line name text = by (is_attribute_name (name_of (past_blanks line)) && (get_or (bytes_behind (past_blanks line)) 0 0 == 61)) refl
+setting_parts line name text = by (is_attribute_name (leading_name (past_blanks line)) && (get_or (bytes_behind (past_blanks line)) 0 0 == 61)) refl
   where
-    by : (b : Bool) → (is_attribute_name (name_of (past_blanks line)) && (get_or (bytes_behind (past_blanks line)) 0 0 == 61)) ≡ b → cond b (Some (reading_of line)) None ≡ Some (name, text) → IsSetting line name text
+    by : (b : Bool) → (is_attribute_name (leading_name (past_blanks line)) && (get_or (bytes_behind (past_blanks line)) 0 0 == 61)) ≡ b → cond b (Some (reading_of line)) None ≡ Some (name, text) → IsSetting line name text
     by true e h =
-        let p = and_parts (is_attribute_name (name_of (past_blanks line))) _ e in
+        let p = and_parts (is_attribute_name (leading_name (past_blanks line))) _ e in
         subst (λ s. IsSetting line s.0 s.1) (some_is (reading_of line) (name, text) h) (read_parts line (past_blanks line) refl p.0 (eqb-true _ _ p.1))
     by false e h = absurd (let z : None ≡ Some (name, text) = h in cc)
 

@@ -3,7 +3,7 @@ use Rattle.std.specs.Prelude.{◌≡◌, ℕ, ◌+◌, ◌-◌, ◌==◌, ◌&&�
 use Rattle.std.specs.List.{prefix_len, suffix_len, slice_split}
 use Rattle.ad_tree.specs.Tree.{Tree}
 use Rattle.ad_tree.specs.Ad.{Attributes, lookup, with_attribute}
-use Rattle.ad_token.specs.Names.{name_length, name_of, is_too_long, word_of}
+use Rattle.ad_token.specs.Names.{name_length, leading_name, is_too_long, word_of}
 use Rattle.ad_token.specs.Lexing.{is_blank}
 use Rattle.ad_parse.specs.declared.error.ParseError.{ParseError}
 use Rattle.ad_parse.specs.declared.error.AdError.{AdError}
@@ -40,7 +40,7 @@ abbrev pub around_sign : List ℕ → List ℕ → Option (List ℕ × List ℕ)
 around_sign name after = if is_attribute_name name && (slice_index after 0 == 61) then Some (name, trimmed (drop 1 after)) else None
 
 abbrev pub setting_from : List ℕ → Option (List ℕ × List ℕ)
-setting_from bs = around_sign (name_of bs) (past_blanks (drop (name_length bs) bs))
+setting_from bs = around_sign (leading_name bs) (past_blanks (drop (name_length bs) bs))
 
 -- the name that a line sets, and the text of its expression
 abbrev pub setting : List ℕ → Option (List ℕ × List ℕ)

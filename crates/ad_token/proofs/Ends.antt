@@ -1,4 +1,4 @@
--- Each token that stands in an expression ends in an ASCII byte of the text, so the text may be cut behind it.
+-- Each token that stands in an expression ends in an ASCII byte of the text, so the text may be cut after it.
 use Rattle.std.proofs.Common.{◌≡◌, ◌⊎◌, inl, inr, ℕ, zero, suc, ◌+◌, ◌-◌, ◌<◌, ◌≤◌, ◌&&◌, ◌||◌, Bool, true, false, cond, eqb, ltb, List, [], ◌∷◌, length, drop, get_or, codes, nat_eq, Option, Some, None, is_some, refl, ap, sym, ◌∙◌, subst, arith}
 use Rattle.std.specs.Char.{is_ascii_digit}
 use Rattle.std.specs.List.{prefix_len}
@@ -10,12 +10,12 @@ use Rattle.std.proofs.lemmas.Str.{IsCharBoundary-after_ascii}
 use Rattle.ad_tree.specs.declared.operator.Scope.{Scope}
 use Rattle.ad_token.specs.declared.token.Token.{Token}
 use Rattle.ad_token.specs.declared.token.Token.TheVariants as token
-use Rattle.ad_token.specs.Names.{is_letter, is_name_byte, name_length, name_of, is_too_long, word_of, prefix_of, name_behind_dot, bare, scoped, perhaps_scoped, perhaps_word, named, name_token}
+use Rattle.ad_token.specs.Names.{is_letter, is_name_byte, name_length, leading_name, is_too_long, word_of, scope_of_prefix, name_after_dot, bare_name, scope_prefix_token, perhaps_scope_prefix, perhaps_word, token_of_name, name_token}
 use Rattle.ad_token.specs.Numbers.{digits_length, fraction_length, sign_length, signed_length, exponent_with, exponent_length, tail_length, number_token, point_token}
-use Rattle.ad_token.specs.Strings.{closing, string_to, string_token}
-use Rattle.ad_token.specs.Marks.{begins, mark_of_three, mark_of_two, mark_of_one, longest, mark_token}
-use Rattle.ad_token.specs.Lexing.{is_refused, token_at}
-use Rattle.ad_token.proofs.Fronts.{name_byte_ascii, digit_ascii}
+use Rattle.ad_token.specs.Strings.{closing_quote, string_to, string_token}
+use Rattle.ad_token.specs.Marks.{begins_with, mark_of_three, mark_of_two, mark_of_one, longest, mark_token}
+use Rattle.ad_token.specs.Lexing.{ends_the_tokens, token_at}
+use Rattle.ad_token.proofs.Prefixes.{name_byte_ascii, digit_ascii}
 use Rattle.ad_token.proofs.Escapes.{IsQuote, closing_at}
 
 pub record Ends (bs : List ℕ) (n : ℕ) : Type 0 where
@@ -28,7 +28,7 @@ ends_boundary bs n utf8 e =
     let one : n - 1 + 1 ≡ n = omega (arith, e.some) in
     subst (λ m. IsCharBoundary bs m) one (IsCharBoundary-after_ascii bs (n - 1) utf8 (omega (arith, e.some, e.within)) e.ascii)
 
--- one part behind another, either of which may be empty
+-- one part after another, either of which may be empty
 abbrev Perhaps : List ℕ → ℕ → Type 0
 Perhaps bs n = (n ≡ 0) ⊎ Ends bs n
 
@@ -101,66 +101,66 @@ name_ends bs some = by (name_perhaps bs)
     by (inl e) = absurd (omega (arith, e, some))
     by (inr p) = p
 
-length_name : (bs : List ℕ) → length (name_of bs) ≡ name_length bs
+length_name : (bs : List ℕ) → length (leading_name bs) ≡ name_length bs
 length_name bs = length-take-le (name_length bs) bs (within (name_perhaps bs))
   where
     within : Perhaps bs (name_length bs) → name_length bs ≤ length bs
     within (inl e) = omega (arith, e)
     within (inr p) = p.within
 
-name_of_ends : (bs : List ℕ) (b : ℕ) (name : List ℕ) → name_of bs ≡ b ∷ name → Ends bs (length (b ∷ name))
-name_of_ends bs b name e =
+leading_name_ends : (bs : List ℕ) (b : ℕ) (name : List ℕ) → leading_name bs ≡ b ∷ name → Ends bs (length (b ∷ name))
+leading_name_ends bs b name e =
     let long : length (b ∷ name) ≡ name_length bs = ap length (sym e) ∙ length_name bs in
     rw long (name_ends bs (omega arith))
 
-dot_ends : (after : List ℕ) (b : ℕ) (name : List ℕ) → name_behind_dot after ≡ b ∷ name → Ends after 1 × Ends (drop 1 after) (length (b ∷ name))
-unfolding name_behind_dot
+dot_ends : (after : List ℕ) (b : ℕ) (name : List ℕ) → name_after_dot after ≡ b ∷ name → Ends after 1 × Ends (drop 1 after) (length (b ∷ name))
+unfolding name_after_dot
 dot_ends [] b name e = cc
-dot_ends (c ∷ after) b name e = by (eqb c 46) refl (is_some (word_of (name_of after))) e
+dot_ends (c ∷ after) b name e = by (eqb c 46) refl (is_some (word_of (leading_name after))) e
   where
-    by : (d : Bool) → eqb c 46 ≡ d → (w : Bool) → cond d (cond w [] (name_of after)) [] ≡ b ∷ name → Ends (c ∷ after) 1 × Ends after (length (b ∷ name))
+    by : (d : Bool) → eqb c 46 ≡ d → (w : Bool) → cond d (cond w [] (leading_name after)) [] ≡ b ∷ name → Ends (c ∷ after) 1 × Ends after (length (b ∷ name))
     by true dot true e = cc
-    by true dot false e = (first_ends (c ∷ after) 46 (omega arith) (eqb-true c 46 dot) (omega arith), name_of_ends after b name e)
+    by true dot false e = (first_ends (c ∷ after) 46 (omega arith) (eqb-true c 46 dot) (omega arith), leading_name_ends after b name e)
     by false dot w e = cc
 
 module _ (bs name : List ℕ) (ends : Ends bs (length name)) where
-  scoped_ends : (s : Scope) (x : List ℕ) → name_behind_dot (drop (length name) bs) ≡ x → is_refused (scoped s name x).0 ≡ false → Ends bs (scoped s name x).1
-  unfolding scoped
-  scoped_ends s [] e ok = ends
-  scoped_ends s (b ∷ x) e ok = by (is_too_long (b ∷ x)) (dot_ends (drop (length name) bs) b x e)
+  scope_prefix_ends : (s : Scope) (x : List ℕ) → name_after_dot (drop (length name) bs) ≡ x → ends_the_tokens (scope_prefix_token s name x).0 ≡ false → Ends bs (scope_prefix_token s name x).1
+  unfolding scope_prefix_token
+  scope_prefix_ends s [] e ok = ends
+  scope_prefix_ends s (b ∷ x) e ok = by (is_too_long (b ∷ x)) (dot_ends (drop (length name) bs) b x e)
     where
       dot : Ends (drop (length name) bs) 1 → Ends bs (length name + 1)
       dot p = sure_sure bs (length name) 1 ends p
 
       by : (l : Bool) → Ends (drop (length name) bs) 1 × Ends (drop 1 (drop (length name) bs)) (length (b ∷ x))
-          → Ends bs (cond {A = Token × ℕ} l (bare name, length name + 1) (token.Name s (b ∷ x), length name + 1 + length (b ∷ x))).1
+          → Ends bs (cond {A = Token × ℕ} l (bare_name name, length name + 1) (token.Name s (b ∷ x), length name + 1 + length (b ∷ x))).1
       by true p = dot p.0
       by false p =
           let sum : length name + (1 + length (b ∷ x)) ≡ length name + 1 + length (b ∷ x) = omega arith in
           subst (λ n. Ends bs n) sum (sure_sure bs (length name) (1 + length (b ∷ x)) ends (sure_sure (drop (length name) bs) 1 (length (b ∷ x)) p.0 p.1))
 
-  perhaps_scoped_ends : (s : Option Scope) → is_refused (perhaps_scoped s name (drop (length name) bs)).0 ≡ false → Ends bs (perhaps_scoped s name (drop (length name) bs)).1
-  perhaps_scoped_ends None ok = ends
-  perhaps_scoped_ends (Some s) ok = scoped_ends s (name_behind_dot (drop (length name) bs)) refl ok
+  perhaps_scope_prefix_ends : (s : Option Scope) → ends_the_tokens (perhaps_scope_prefix s name (drop (length name) bs)).0 ≡ false → Ends bs (perhaps_scope_prefix s name (drop (length name) bs)).1
+  perhaps_scope_prefix_ends None ok = ends
+  perhaps_scope_prefix_ends (Some s) ok = scope_prefix_ends s (name_after_dot (drop (length name) bs)) refl ok
 
-  perhaps_word_ends : (w : Option Token) → is_refused (perhaps_word w name (drop (length name) bs)).0 ≡ false → Ends bs (perhaps_word w name (drop (length name) bs)).1
+  perhaps_word_ends : (w : Option Token) → ends_the_tokens (perhaps_word w name (drop (length name) bs)).0 ≡ false → Ends bs (perhaps_word w name (drop (length name) bs)).1
   perhaps_word_ends (Some w) ok = ends
-  perhaps_word_ends None ok = perhaps_scoped_ends (prefix_of name) ok
+  perhaps_word_ends None ok = perhaps_scope_prefix_ends (scope_of_prefix name) ok
 
-  named_ends : is_refused (named name (drop (length name) bs)).0 ≡ false → Ends bs (named name (drop (length name) bs)).1
-  named_ends ok = by (is_too_long name) ok
+  token_of_name_ends : ends_the_tokens (token_of_name name (drop (length name) bs)).0 ≡ false → Ends bs (token_of_name name (drop (length name) bs)).1
+  token_of_name_ends ok = by (is_too_long name) ok
     where
-      by : (l : Bool) → is_refused (cond l (token.Bad, length name) (perhaps_word (word_of name) name (drop (length name) bs))).0 ≡ false
+      by : (l : Bool) → ends_the_tokens (cond l (token.Bad, length name) (perhaps_word (word_of name) name (drop (length name) bs))).0 ≡ false
           → Ends bs (cond l (token.Bad, length name) (perhaps_word (word_of name) name (drop (length name) bs))).1
       by true ok = cc
       by false ok = perhaps_word_ends (word_of name) ok
 
-name_token_ends : (bs : List ℕ) → is_letter (get_or bs 0 0) ≡ true → is_refused (name_token bs).0 ≡ false → Ends bs (name_token bs).1
+name_token_ends : (bs : List ℕ) → is_letter (get_or bs 0 0) ≡ true → ends_the_tokens (name_token bs).0 ≡ false → Ends bs (name_token bs).1
 unfolding name_token
 name_token_ends bs letter ok =
-    let long : length (name_of bs) ≡ name_length bs = length_name bs in
-    let ends : Ends bs (length (name_of bs)) = rw long (name_ends bs (name_some bs letter)) in
-    (subst (λ n. is_refused (named (name_of bs) (drop n bs)).0 ≡ false → Ends bs (named (name_of bs) (drop n bs)).1) long (named_ends bs (name_of bs) ends)) ok
+    let long : length (leading_name bs) ≡ name_length bs = length_name bs in
+    let ends : Ends bs (length (leading_name bs)) = rw long (name_ends bs (name_some bs letter)) in
+    (subst (λ n. ends_the_tokens (token_of_name (leading_name bs) (drop n bs)).0 ≡ false → Ends bs (token_of_name (leading_name bs) (drop n bs)).1) long (token_of_name_ends bs (leading_name bs) ends)) ok
 
 -- numbers
 digits_perhaps : (bs : List ℕ) → Perhaps bs (digits_length bs)
@@ -222,19 +222,19 @@ unfolding number_token
 number_token_ends bs digit =
     sure_perhaps bs (digits_length bs) (tail_length (drop (digits_length bs) bs)) (run_ends is_ascii_digit digit_ascii bs (digits_some bs digit)) (tail_perhaps (drop (digits_length bs) bs))
 
-point_token_refused : (bs : List ℕ) → is_refused (point_token bs).0 ≡ true
+point_token_refused : (bs : List ℕ) → ends_the_tokens (point_token bs).0 ≡ true
 unfolding point_token
 point_token_refused bs = by (ltb 0 (digits_length (drop 1 bs)))
   where
-    by : (t : Bool) → is_refused (cond t token.Real token.Bad) ≡ true
+    by : (t : Bool) → ends_the_tokens (cond t token.Real token.Bad) ≡ true
     by true = refl
     by false = refl
 
 -- strings
-string_token_ends : (bs : List ℕ) → get_or bs 0 0 ≡ 34 → is_refused (string_token bs).0 ≡ false → Ends bs (string_token bs).1
+string_token_ends : (bs : List ℕ) → get_or bs 0 0 ≡ 34 → ends_the_tokens (string_token bs).0 ≡ false → Ends bs (string_token bs).1
 unfolding string_token
 string_token_ends [] quote ok = cc
-string_token_ends (b ∷ bs) quote ok = by (closing false bs) refl ok
+string_token_ends (b ∷ bs) quote ok = by (closing_quote false bs) refl ok
   where
     closed : (n : ℕ) → IsQuote bs n → Ends bs (n + 1)
     closed n q =
@@ -242,7 +242,7 @@ string_token_ends (b ∷ bs) quote ok = by (closing false bs) refl ok
         let last : get_or bs (n + 1 - 1) 0 ≡ 34 = subst (λ i. get_or bs i 0 ≡ 34) place q.1 in
         record { some = omega arith; within = omega (arith, q.0); ascii = omega (arith, last) }
 
-    by : (o : Option ℕ) → closing false bs ≡ o → is_refused (string_to o bs).0 ≡ false → Ends (b ∷ bs) (string_to o bs).1
+    by : (o : Option ℕ) → closing_quote false bs ≡ o → ends_the_tokens (string_to o bs).0 ≡ false → Ends (b ∷ bs) (string_to o bs).1
     by None e ok = cc
     by (Some n) e ok =
         let sum : 1 + (n + 1) ≡ n + 2 = omega arith in
@@ -253,7 +253,7 @@ both : (a b : Bool) → a && b ≡ true → (a ≡ true) × (b ≡ true)
 both true b h = (refl, h)
 both false b h = cc
 
-two_ends : (bs : List ℕ) (x y : ℕ) → y < 128 → begins bs (x ∷ y ∷ []) ≡ true → Ends bs 2
+two_ends : (bs : List ℕ) (x y : ℕ) → y < 128 → begins_with bs (x ∷ y ∷ []) ≡ true → Ends bs 2
 two_ends [] x y small h = cc
 two_ends (a ∷ []) x y small h = let p = both (nat_eq x a) false h in cc
 two_ends (a ∷ b ∷ bs) x y small h =
@@ -262,7 +262,7 @@ two_ends (a ∷ b ∷ bs) x y small h =
     let e : y ≡ b = eqb-true y b q.0 in
     record { some = omega arith; within = omega arith; ascii = omega (arith, e) }
 
-three_ends : (bs : List ℕ) (x y z : ℕ) → z < 128 → begins bs (x ∷ y ∷ z ∷ []) ≡ true → Ends bs 3
+three_ends : (bs : List ℕ) (x y z : ℕ) → z < 128 → begins_with bs (x ∷ y ∷ z ∷ []) ≡ true → Ends bs 3
 three_ends [] x y z small h = cc
 three_ends (a ∷ []) x y z small h = let p = both (nat_eq x a) false h in cc
 three_ends (a ∷ b ∷ []) x y z small h = let p = both (nat_eq x a) (nat_eq y b && false) h in let q = both (nat_eq y b) false p.1 in cc
@@ -279,24 +279,24 @@ or_else false x o f g e = g e
 
 mark_of_three_ends : (bs : List ℕ) (t : Token) → mark_of_three bs ≡ Some t → Ends bs 3
 unfolding mark_of_three
-mark_of_three_ends bs t = or_else (begins bs (codes "=?=")) _ _ (three_ends bs 61 63 61 (omega arith)) (or_else (begins bs (codes "=!=")) _ _ (three_ends bs 61 33 61 (omega arith)) (λ e. cc))
+mark_of_three_ends bs t = or_else (begins_with bs (codes "=?=")) _ _ (three_ends bs 61 63 61 (omega arith)) (or_else (begins_with bs (codes "=!=")) _ _ (three_ends bs 61 33 61 (omega arith)) (λ e. cc))
 
 mark_of_two_ends : (bs : List ℕ) (t : Token) → mark_of_two bs ≡ Some t → Ends bs 2
 unfolding mark_of_two
 mark_of_two_ends bs t =
-    or_else (begins bs (codes "==")) _ _ (two_ends bs 61 61 (omega arith))
-    (or_else (begins bs (codes "!=")) _ _ (two_ends bs 33 61 (omega arith))
-    (or_else (begins bs (codes "<=")) _ _ (two_ends bs 60 61 (omega arith))
-    (or_else (begins bs (codes ">=")) _ _ (two_ends bs 62 61 (omega arith))
-    (or_else (begins bs (codes "&&")) _ _ (two_ends bs 38 38 (omega arith))
-    (or_else (begins bs (codes "||")) _ _ (two_ends bs 124 124 (omega arith))
-    (or_else (begins bs (codes "?:")) _ _ (two_ends bs 63 58 (omega arith)) (λ e. cc)))))))
+    or_else (begins_with bs (codes "==")) _ _ (two_ends bs 61 61 (omega arith))
+    (or_else (begins_with bs (codes "!=")) _ _ (two_ends bs 33 61 (omega arith))
+    (or_else (begins_with bs (codes "<=")) _ _ (two_ends bs 60 61 (omega arith))
+    (or_else (begins_with bs (codes ">=")) _ _ (two_ends bs 62 61 (omega arith))
+    (or_else (begins_with bs (codes "&&")) _ _ (two_ends bs 38 38 (omega arith))
+    (or_else (begins_with bs (codes "||")) _ _ (two_ends bs 124 124 (omega arith))
+    (or_else (begins_with bs (codes "?:")) _ _ (two_ends bs 63 58 (omega arith)) (λ e. cc)))))))
 
-else_token : {P : Type 0} (c : Bool) (x y : Token) → (c ≡ true → P) → (is_refused y ≡ false → P) → is_refused (cond c x y) ≡ false → P
+else_token : {P : Type 0} (c : Bool) (x y : Token) → (c ≡ true → P) → (ends_the_tokens y ≡ false → P) → ends_the_tokens (cond c x y) ≡ false → P
 else_token true x y f g e = f refl
 else_token false x y f g e = g e
 
-mark_of_one_ascii : (b : ℕ) → is_refused (mark_of_one b) ≡ false → b < 128
+mark_of_one_ascii : (b : ℕ) → ends_the_tokens (mark_of_one b) ≡ false → b < 128
 unfolding mark_of_one
 mark_of_one_ascii b =
     is 60 _ _ (omega arith)
@@ -315,14 +315,14 @@ mark_of_one_ascii b =
     (is 123 _ _ (omega arith)
     (is 125 _ _ (omega arith) (λ e. cc)))))))))))))))
   where
-    is : (k : ℕ) (x y : Token) → k < 128 → (is_refused y ≡ false → b < 128) → is_refused (cond (eqb b k) x y) ≡ false → b < 128
+    is : (k : ℕ) (x y : Token) → k < 128 → (ends_the_tokens y ≡ false → b < 128) → ends_the_tokens (cond (eqb b k) x y) ≡ false → b < 128
     is k x y small g = else_token (eqb b k) x y (λ e. let same : b ≡ k = eqb-true b k e in omega arith) g
 
-mark_token_ends : (bs : List ℕ) → 0 < length bs → is_refused (mark_token bs).0 ≡ false → Ends bs (mark_token bs).1
+mark_token_ends : (bs : List ℕ) → 0 < length bs → ends_the_tokens (mark_token bs).0 ≡ false → Ends bs (mark_token bs).1
 unfolding mark_token
 mark_token_ends bs some ok = by (mark_of_three bs) (mark_of_two bs) refl refl ok
   where
-    by : (p q : Option Token) → mark_of_three bs ≡ p → mark_of_two bs ≡ q → is_refused (longest p q (mark_of_one (get_or bs 0 0))).0 ≡ false → Ends bs (longest p q (mark_of_one (get_or bs 0 0))).1
+    by : (p q : Option Token) → mark_of_three bs ≡ p → mark_of_two bs ≡ q → ends_the_tokens (longest p q (mark_of_one (get_or bs 0 0))).0 ≡ false → Ends bs (longest p q (mark_of_one (get_or bs 0 0))).1
     by (Some t) q e f ok = mark_of_three_ends bs t e
     by None (Some t) e f ok = mark_of_two_ends bs t f
     by None None e f ok = first_ends bs (get_or bs 0 0) some refl (mark_of_one_ascii (get_or bs 0 0) ok)
@@ -330,11 +330,11 @@ mark_token_ends bs some ok = by (mark_of_three bs) (mark_of_two bs) refl refl ok
 abbrev pub by_tests : List ℕ → Bool → Bool → Bool → Bool → Token × ℕ
 by_tests bs l d q p = cond l (name_token bs) (cond d (number_token bs) (cond q (string_token bs) (cond p (point_token bs) (mark_token bs))))
 
-pub token_at_ends : (bs : List ℕ) → 0 < length bs → is_refused (token_at bs).0 ≡ false → Ends bs (token_at bs).1
+pub token_at_ends : (bs : List ℕ) → 0 < length bs → ends_the_tokens (token_at bs).0 ≡ false → Ends bs (token_at bs).1
 unfolding token_at
 token_at_ends bs some ok = by (is_letter (get_or bs 0 0)) (is_ascii_digit (get_or bs 0 0)) (eqb (get_or bs 0 0) 34) (eqb (get_or bs 0 0) 46) refl refl refl ok
   where
-    by : (l d q p : Bool) → is_letter (get_or bs 0 0) ≡ l → is_ascii_digit (get_or bs 0 0) ≡ d → eqb (get_or bs 0 0) 34 ≡ q → is_refused (by_tests bs l d q p).0 ≡ false → Ends bs (by_tests bs l d q p).1
+    by : (l d q p : Bool) → is_letter (get_or bs 0 0) ≡ l → is_ascii_digit (get_or bs 0 0) ≡ d → eqb (get_or bs 0 0) 34 ≡ q → ends_the_tokens (by_tests bs l d q p).0 ≡ false → Ends bs (by_tests bs l d q p).1
     by true d q p e f g ok = name_token_ends bs e ok
     by false true q p e f g ok = number_token_ends bs f
     by false false true p e f g ok = string_token_ends bs (eqb-true (get_or bs 0 0) 34 g) ok

@@ -12,10 +12,10 @@ use Rattle.ad_token.specs.declared.token.Token.TheVariants as token
 use Rattle.ad_token.specs.declared.token.Placed.{Placed}
 use Rattle.ad_token.specs.Names.{is_name_byte}
 use Rattle.ad_token.specs.Marks.{mark_of_three, mark_of_two, mark_of_one, longest, mark_token}
-use Rattle.ad_token.specs.Lexing.{is_blank, is_refused, token_at, and_on, lex_from, tokens_from}
+use Rattle.ad_token.specs.Lexing.{is_blank, ends_the_tokens, token_at, token_and_rest, lex_from, tokens_from}
 use Rattle.ad_token.specs.Canonical.{operator_text, scope_text, token_text, is_name, is_numeral, is_proper, ends_before, token_of, kinds_of, joined_text, joined_tokens, are_apart}
 use Rattle.ad_token.proofs.Turns.{tokens_blank, tokens_token, tokens_end}
-use Rattle.ad_token.proofs.Pieces.{both, neither, not_true, word_at, bare_at, prefixed_at, my_prefix, target_prefix, my_no_word, target_no_word, true_word, false_word, undefined_word, error_word, integer_at, string_at}
+use Rattle.ad_token.proofs.Pieces.{both, neither, not_true, word_at, bare_at, scope_prefix_at, my_prefix, target_prefix, my_no_word, target_no_word, true_word, false_word, undefined_word, error_word, integer_at, string_at}
 
 -- marks that a second byte would make longer
 turned : (k b : ℕ) → eqb b k ≡ false → nat_eq k b ≡ false
@@ -67,16 +67,16 @@ name_at : (s : Scope) (x bs : List ℕ) → is_name x ≡ true → ends_before (
 name_at Bare x bs name h = let p = neither (is_name_byte (get_or bs 0 0)) _ h in bare_at x bs name p.0 p.1
 name_at My x bs name h =
     let long : 2 + 1 + length x ≡ suc (suc (suc (length x))) = omega arith in
-    prefixed_at My (codes "MY") x bs refl refl refl my_no_word my_prefix name (not_true (is_name_byte (get_or bs 0 0)) h) ∙ ap (λ n. (token.Name My x, n)) long
+    scope_prefix_at My (codes "MY") x bs refl refl refl my_no_word my_prefix name (not_true (is_name_byte (get_or bs 0 0)) h) ∙ ap (λ n. (token.Name My x, n)) long
 name_at Target x bs name h =
     let long : 6 + 1 + length x ≡ suc (suc (suc (suc (suc (suc (suc (length x))))))) = omega arith in
-    prefixed_at Target (codes "TARGET") x bs refl refl refl target_no_word target_prefix name (not_true (is_name_byte (get_or bs 0 0)) h) ∙ ap (λ n. (token.Name Target x, n)) long
+    scope_prefix_at Target (codes "TARGET") x bs refl refl refl target_no_word target_prefix name (not_true (is_name_byte (get_or bs 0 0)) h) ∙ ap (λ n. (token.Name Target x, n)) long
 
 integer_text_at : (n : ℤ) (bs : List ℕ) → is_numeral n ≡ true → ends_before (token.Int n) (get_or bs 0 0) ≡ true → token_at (token_text (token.Int n) ++ bs) ≡ (token.Int n, length (token_text (token.Int n)))
 integer_text_at (pos n) bs small h = let p = neither (is_name_byte (get_or bs 0 0)) _ h in integer_at n bs (ltb-true n (2 ^ 63) small) p.0 p.1
 integer_text_at (negsuc n) bs small h = cc
 
--- the token at the front of its text, and its length
+-- the token at the start of its text, and its length
 pub text_at : (t : Token) (bs : List ℕ) → is_proper t ≡ true → ends_before t (get_or bs 0 0) ≡ true → token_at (token_text t ++ bs) ≡ (t, length (token_text t))
 unfolding token_at mark_token mark_of_three mark_of_two mark_of_one
 text_at token.Undefined bs p h = word_at (codes "UNDEFINED") bs token.Undefined refl refl refl undefined_word (not_true (is_name_byte (get_or bs 0 0)) h)
@@ -100,48 +100,48 @@ text_at token.Real bs p h = cc
 text_at token.Range bs p h = cc
 text_at token.Bad bs p h = cc
 
-pub proper_fine : (t : Token) → is_proper t ≡ true → is_refused t ≡ false
+pub proper_fine : (t : Token) → is_proper t ≡ true → ends_the_tokens t ≡ false
 proper_fine token.Real p = cc
 proper_fine token.Range p = cc
 proper_fine token.Bad p = cc
 proper_fine _ p = refl
 
 -- no token begins with a blank
-blank_refused : (b : ℕ) (bs : List ℕ) → is_blank b ≡ true → is_refused (token_at (b ∷ bs)).0 ≡ true
+blank_refused : (b : ℕ) (bs : List ℕ) → is_blank b ≡ true → ends_the_tokens (token_at (b ∷ bs)).0 ≡ true
 unfolding token_at mark_token mark_of_three mark_of_two mark_of_one
 blank_refused b bs h = by (eqb b 32) (eqb b 9) refl refl h
   where
-    space : b ≡ 32 → is_refused (token_at (b ∷ bs)).0 ≡ true
-    space e = subst (λ c. is_refused (token_at (c ∷ bs)).0 ≡ true) (sym e) refl
+    space : b ≡ 32 → ends_the_tokens (token_at (b ∷ bs)).0 ≡ true
+    space e = subst (λ c. ends_the_tokens (token_at (c ∷ bs)).0 ≡ true) (sym e) refl
 
-    tab : b ≡ 9 → is_refused (token_at (b ∷ bs)).0 ≡ true
-    tab e = subst (λ c. is_refused (token_at (c ∷ bs)).0 ≡ true) (sym e) refl
+    tab : b ≡ 9 → ends_the_tokens (token_at (b ∷ bs)).0 ≡ true
+    tab e = subst (λ c. ends_the_tokens (token_at (c ∷ bs)).0 ≡ true) (sym e) refl
 
-    by : (s t : Bool) → eqb b 32 ≡ s → eqb b 9 ≡ t → s || t ≡ true → is_refused (token_at (b ∷ bs)).0 ≡ true
+    by : (s t : Bool) → eqb b 32 ≡ s → eqb b 9 ≡ t → s || t ≡ true → ends_the_tokens (token_at (b ∷ bs)).0 ≡ true
     by true t e f h = space (eqb-true b 32 e)
     by false true e f h = tab (eqb-true b 9 f)
     by false false e f h = cc
 
-empty_refused : is_refused (token_at []).0 ≡ true
+empty_refused : ends_the_tokens (token_at []).0 ≡ true
 unfolding token_at mark_token mark_of_three mark_of_two mark_of_one
 empty_refused = refl
 
--- what token stands at the front says how the tokens begin
-front_read : (at : ℕ) (bs rest : List ℕ) (t : Token) (n : ℕ) → token_at bs ≡ (t, n) → is_refused t ≡ false → drop n bs ≡ rest → tokens_from at bs ≡ record { at = at; token = t } ∷ tokens_from (at + n) rest
-front_read at [] rest t n e fine after = let r : is_refused t ≡ true = sym (ap (λ u. is_refused u.0) e) ∙ empty_refused in cc
-front_read at (b ∷ bs) rest t n e fine after = by (is_blank b) refl
+-- the token that a text begins with says how the tokens begin
+token_at_read : (at : ℕ) (bs rest : List ℕ) (t : Token) (n : ℕ) → token_at bs ≡ (t, n) → ends_the_tokens t ≡ false → drop n bs ≡ rest → tokens_from at bs ≡ record { at = at; token = t } ∷ tokens_from (at + n) rest
+token_at_read at [] rest t n e fine after = let r : ends_the_tokens t ≡ true = sym (ap (λ u. ends_the_tokens u.0) e) ∙ empty_refused in cc
+token_at_read at (b ∷ bs) rest t n e fine after = by (is_blank b) refl
   where
     by : (w : Bool) → is_blank b ≡ w → tokens_from at (b ∷ bs) ≡ record { at = at; token = t } ∷ tokens_from (at + n) rest
-    by true blank = let r : is_refused t ≡ true = sym (ap (λ u. is_refused u.0) e) ∙ blank_refused b bs blank in cc
+    by true blank = let r : ends_the_tokens t ≡ true = sym (ap (λ u. ends_the_tokens u.0) e) ∙ blank_refused b bs blank in cc
     by false blank =
         let p : Placed = record { at = at; token = t } in
-        tokens_token at (b ∷ bs) (omega arith) blank ∙ ap (λ u. and_on tokens_from at (b ∷ bs) u) e ∙ ap (λ c. p ∷ cond c [] (tokens_from (at + n) (drop n (b ∷ bs)))) fine
+        tokens_token at (b ∷ bs) (omega arith) blank ∙ ap (λ u. token_and_rest tokens_from at (b ∷ bs) u) e ∙ ap (λ c. p ∷ cond c [] (tokens_from (at + n) (drop n (b ∷ bs)))) fine
         ∙ ap (λ l. p ∷ tokens_from (at + n) l) after
 
 -- a token's text, and what follows
 pub text_read : (at : ℕ) (t : Token) (bs : List ℕ) → is_proper t ≡ true → ends_before t (get_or bs 0 0) ≡ true
     → tokens_from at (token_text t ++ bs) ≡ record { at = at; token = t } ∷ tokens_from (at + length (token_text t)) bs
-text_read at t bs proper ends = front_read at (token_text t ++ bs) bs t (length (token_text t)) (text_at t bs proper ends) (proper_fine t proper) (drop_at (token_text t) bs _ refl)
+text_read at t bs proper ends = token_at_read at (token_text t ++ bs) bs t (length (token_text t)) (text_at t bs proper ends) (proper_fine t proper) (drop_at (token_text t) bs _ refl)
 
 pub blank_read : (at : ℕ) (bs : List ℕ) → tokens_from at (32 ∷ bs) ≡ tokens_from (at + 1) bs
 blank_read at bs = tokens_blank at (32 ∷ bs) (omega arith) refl
@@ -151,7 +151,7 @@ shift : (n at k : ℕ) (bs : List ℕ) → map token_of (lex_from n at bs) ≡ m
 unfolding lex_from
 shift zero at k bs = refl
 shift (suc n) at k [] = refl
-shift (suc n) at k (b ∷ bs) = by (λ i j cs. shift n i j cs) (is_blank b) (token_at (b ∷ bs)) (is_refused (token_at (b ∷ bs)).0)
+shift (suc n) at k (b ∷ bs) = by (λ i j cs. shift n i j cs) (is_blank b) (token_at (b ∷ bs)) (ends_the_tokens (token_at (b ∷ bs)).0)
   where
     by : ((i j : ℕ) (cs : List ℕ) → map token_of (lex_from n i cs) ≡ map token_of (lex_from n j cs)) → (w : Bool) (t : Token × ℕ) (r : Bool)
         → map token_of (cond w (lex_from n (at + 1) bs) (record { at = at; token = t.0 } ∷ cond r [] (lex_from n (at + t.1) (drop t.1 (b ∷ bs)))))

@@ -1,4 +1,4 @@
-pub mod Fronts
+pub mod Prefixes
 pub mod Escapes
 pub mod Ends
 pub mod Turns

@@ -15,12 +15,12 @@ use Rattle.ad_tree.specs.declared.operator.Scope.{Scope}
 use Rattle.ad_tree.specs.declared.operator.Scope.TheVariants.{Bare, My, Target}
 use Rattle.ad_token.specs.declared.token.Token.{Token}
 use Rattle.ad_token.specs.declared.token.Token.TheVariants as token
-use Rattle.ad_token.specs.Names.{is_letter, is_name_byte, name_length, name_of, is_too_long, word_of, prefix_of, unless_word, name_behind_dot, bare, scoped, perhaps_scoped, perhaps_word, named, name_token}
-use Rattle.ad_token.specs.Numbers.{digits_length, fraction_length, signed_length, exponent_with, exponent_length, tail_length, number_token, numeral, integer_token}
-use Rattle.ad_token.specs.Strings.{closing, unescaped, string_to, string_token}
+use Rattle.ad_token.specs.Names.{is_letter, is_name_byte, name_length, leading_name, is_too_long, word_of, scope_of_prefix, unless_word, name_after_dot, bare_name, scope_prefix_token, perhaps_scope_prefix, perhaps_word, token_of_name, name_token}
+use Rattle.ad_token.specs.Numbers.{digits_length, fraction_length, signed_length, exponent_with, exponent_length, tail_length, number_token, numeral_token, integer_token}
+use Rattle.ad_token.specs.Strings.{closing_quote, unescape_text, string_to, string_token}
 use Rattle.ad_token.specs.Lexing.{token_at}
 use Rattle.ad_token.specs.Canonical.{is_name, is_line}
-use Rattle.ad_token.proofs.Fronts.{numeral_model}
+use Rattle.ad_token.proofs.Prefixes.{numeral_model}
 use Rattle.ad_token.proofs.Ends.{by_tests}
 
 pub both : (a b : Bool) → a && b ≡ true → (a ≡ true) × (b ≡ true)
@@ -50,15 +50,15 @@ run_append p (x ∷ xs) ys a s =
     ap (λ c. cond c (1 + prefix_len p (xs ++ ys)) 0) h.0 ∙ n
 
 -- names
-record Named (x : List ℕ) : Type 0 where
+record NameParts (x : List ℕ) : Type 0 where
   letter : is_letter (get_or x 0 0) ≡ true
   bytes : list_all is_name_byte x ≡ true
   short : is_too_long x ≡ false
   no_word : is_some (word_of x) ≡ false
 
-named_from : (x : List ℕ) → is_name x ≡ true → Named x
+name_parts_from : (x : List ℕ) → is_name x ≡ true → NameParts x
 unfolding is_name
-named_from x h =
+name_parts_from x h =
     let a = both (is_letter (get_or x 0 0)) _ h in
     let b = both (list_all is_name_byte x) _ a.1 in
     let c = both (not (is_too_long x)) _ b.1 in
@@ -72,14 +72,14 @@ first_append : (x bs : List ℕ) → is_letter (get_or x 0 0) ≡ true → is_le
 first_append [] bs h = cc
 first_append (b ∷ x) bs h = h
 
--- a name's bytes at the front, and what follows
-record Front (x bs : List ℕ) : Type 0 where
+-- a name's bytes at the start of a text, and what follows
+record Leading (x bs : List ℕ) : Type 0 where
   letter : is_letter (get_or (x ++ bs) 0 0) ≡ true
-  is : name_of (x ++ bs) ≡ x
+  is : leading_name (x ++ bs) ≡ x
   after : drop (name_length (x ++ bs)) (x ++ bs) ≡ bs
 
-front_from : (x bs : List ℕ) → is_letter (get_or x 0 0) ≡ true → list_all is_name_byte x ≡ true → is_name_byte (get_or bs 0 0) ≡ false → Front x bs
-front_from x bs letter bytes stop =
+leading_from : (x bs : List ℕ) → is_letter (get_or x 0 0) ≡ true → list_all is_name_byte x ≡ true → is_name_byte (get_or bs 0 0) ≡ false → Leading x bs
+leading_from x bs letter bytes stop =
     let first = first_append x bs letter in
     let n : name_length (x ++ bs) ≡ length x = ap (λ c. cond c (prefix_len is_name_byte (x ++ bs)) 0) first ∙ run_append is_name_byte x bs bytes stop in
     record {
@@ -92,65 +92,65 @@ at_letter : (bs : List ℕ) → is_letter (get_or bs 0 0) ≡ true → token_at 
 unfolding token_at
 at_letter bs h = ap (λ l. by_tests bs l (is_ascii_digit (get_or bs 0 0)) (eqb (get_or bs 0 0) 34) (eqb (get_or bs 0 0) 46)) h
 
-name_token_is : (x bs : List ℕ) → Front x bs → token_at (x ++ bs) ≡ named x bs
+name_token_is : (x bs : List ℕ) → Leading x bs → token_at (x ++ bs) ≡ token_of_name x bs
 unfolding name_token
-name_token_is x bs f = at_letter (x ++ bs) f.letter ∙ (λ i. named (f.is i) (f.after i))
+name_token_is x bs f = at_letter (x ++ bs) f.letter ∙ (λ i. token_of_name (f.is i) (f.after i))
 
 pub word_at : (x bs : List ℕ) (w : Token) → is_letter (get_or x 0 0) ≡ true → list_all is_name_byte x ≡ true → is_too_long x ≡ false → word_of x ≡ Some w → is_name_byte (get_or bs 0 0) ≡ false
     → token_at (x ++ bs) ≡ (w, length x)
 word_at x bs w letter bytes short is stop =
-    name_token_is x bs (front_from x bs letter bytes stop)
+    name_token_is x bs (leading_from x bs letter bytes stop)
     ∙ ap (λ c. cond c (token.Bad, length x) (perhaps_word (word_of x) x bs)) short
     ∙ ap (λ o. perhaps_word o x bs) is
 
-no_dot : (bs : List ℕ) → eqb (get_or bs 0 0) 46 ≡ false → name_behind_dot bs ≡ []
-unfolding name_behind_dot
-no_dot bs h = ap (λ c. cond c (unless_word (name_of (drop 1 bs))) []) h
+no_dot : (bs : List ℕ) → eqb (get_or bs 0 0) 46 ≡ false → name_after_dot bs ≡ []
+unfolding name_after_dot
+no_dot bs h = ap (λ c. cond c (unless_word (leading_name (drop 1 bs))) []) h
 
-no_name : (s : Scope) (x : List ℕ) → scoped s x [] ≡ (bare x, length x)
-unfolding scoped
+no_name : (s : Scope) (x : List ℕ) → scope_prefix_token s x [] ≡ (bare_name x, length x)
+unfolding scope_prefix_token
 no_name s x = refl
 
-named_is : (x bs : List ℕ) → Named x → named x bs ≡ perhaps_scoped (prefix_of x) x bs
-named_is x bs n = ap (λ c. cond c (token.Bad, length x) (perhaps_word (word_of x) x bs)) n.short ∙ ap (λ o. perhaps_word o x bs) (none_from (word_of x) n.no_word)
+token_of_name_is : (x bs : List ℕ) → NameParts x → token_of_name x bs ≡ perhaps_scope_prefix (scope_of_prefix x) x bs
+token_of_name_is x bs n = ap (λ c. cond c (token.Bad, length x) (perhaps_word (word_of x) x bs)) n.short ∙ ap (λ o. perhaps_word o x bs) (none_from (word_of x) n.no_word)
 
-pub bare_at : (x bs : List ℕ) → is_name x ≡ true → is_name_byte (get_or bs 0 0) ≡ false → (eqb (get_or bs 0 0) 46) && is_some (prefix_of x) ≡ false → token_at (x ++ bs) ≡ (token.Name Bare x, length x)
+pub bare_at : (x bs : List ℕ) → is_name x ≡ true → is_name_byte (get_or bs 0 0) ≡ false → (eqb (get_or bs 0 0) 46) && is_some (scope_of_prefix x) ≡ false → token_at (x ++ bs) ≡ (token.Name Bare x, length x)
 bare_at x bs h stop dot =
-    let n = named_from x h in
-    name_token_is x bs (front_from x bs n.letter n.bytes stop) ∙ named_is x bs n ∙ by (prefix_of x) (eqb (get_or bs 0 0) 46) refl dot
+    let n = name_parts_from x h in
+    name_token_is x bs (leading_from x bs n.letter n.bytes stop) ∙ token_of_name_is x bs n ∙ by (scope_of_prefix x) (eqb (get_or bs 0 0) 46) refl dot
   where
-    by : (o : Option Scope) (d : Bool) → eqb (get_or bs 0 0) 46 ≡ d → d && is_some o ≡ false → perhaps_scoped o x bs ≡ (bare x, length x)
+    by : (o : Option Scope) (d : Bool) → eqb (get_or bs 0 0) 46 ≡ d → d && is_some o ≡ false → perhaps_scope_prefix o x bs ≡ (bare_name x, length x)
     by None d e dot = refl
     by (Some s) true e dot = cc
-    by (Some s) false e dot = ap (λ y. scoped s x y) (no_dot bs e) ∙ no_name s x
+    by (Some s) false e dot = ap (λ y. scope_prefix_token s x y) (no_dot bs e) ∙ no_name s x
 
-behind_dot : (x bs : List ℕ) → Named x → is_name_byte (get_or bs 0 0) ≡ false → name_behind_dot (46 ∷ (x ++ bs)) ≡ x
-unfolding name_behind_dot
-behind_dot x bs n stop = ap (λ y. unless_word y) (front_from x bs n.letter n.bytes stop).is ∙ ap (λ c. cond c [] x) n.no_word
+after_dot : (x bs : List ℕ) → NameParts x → is_name_byte (get_or bs 0 0) ≡ false → name_after_dot (46 ∷ (x ++ bs)) ≡ x
+unfolding name_after_dot
+after_dot x bs n stop = ap (λ y. unless_word y) (leading_from x bs n.letter n.bytes stop).is ∙ ap (λ c. cond c [] x) n.no_word
 
-scoped_is : (s : Scope) (p x : List ℕ) → Named x → scoped s p x ≡ (token.Name s x, length p + 1 + length x)
-unfolding scoped
-scoped_is s p [] n = let l = n.letter in cc
-scoped_is s p (b ∷ x) n = ap (λ c. cond {A = Token × ℕ} c (bare p, length p + 1) (token.Name s (b ∷ x), length p + 1 + length (b ∷ x))) n.short
+scope_prefix_is : (s : Scope) (p x : List ℕ) → NameParts x → scope_prefix_token s p x ≡ (token.Name s x, length p + 1 + length x)
+unfolding scope_prefix_token
+scope_prefix_is s p [] n = let l = n.letter in cc
+scope_prefix_is s p (b ∷ x) n = ap (λ c. cond {A = Token × ℕ} c (bare_name p, length p + 1) (token.Name s (b ∷ x), length p + 1 + length (b ∷ x))) n.short
 
 -- a prefix, its dot and a name
-pub prefixed_at : (s : Scope) (p x bs : List ℕ) → is_letter (get_or p 0 0) ≡ true → list_all is_name_byte p ≡ true → is_too_long p ≡ false → word_of p ≡ None → prefix_of p ≡ Some s
+pub scope_prefix_at : (s : Scope) (p x bs : List ℕ) → is_letter (get_or p 0 0) ≡ true → list_all is_name_byte p ≡ true → is_too_long p ≡ false → word_of p ≡ None → scope_of_prefix p ≡ Some s
     → is_name x ≡ true → is_name_byte (get_or bs 0 0) ≡ false → token_at (p ++ 46 ∷ (x ++ bs)) ≡ (token.Name s x, length p + 1 + length x)
-prefixed_at s p x bs letter bytes short no_word prefix h stop =
-    let n = named_from x h in
-    name_token_is p (46 ∷ (x ++ bs)) (front_from p (46 ∷ (x ++ bs)) letter bytes refl)
+scope_prefix_at s p x bs letter bytes short no_word prefix h stop =
+    let n = name_parts_from x h in
+    name_token_is p (46 ∷ (x ++ bs)) (leading_from p (46 ∷ (x ++ bs)) letter bytes refl)
     ∙ ap (λ c. cond c (token.Bad, length p) (perhaps_word (word_of p) p (46 ∷ (x ++ bs)))) short
     ∙ ap (λ o. perhaps_word o p (46 ∷ (x ++ bs))) no_word
-    ∙ ap (λ o. perhaps_scoped o p (46 ∷ (x ++ bs))) prefix
-    ∙ ap (λ y. scoped s p y) (behind_dot x bs n stop)
-    ∙ scoped_is s p x n
+    ∙ ap (λ o. perhaps_scope_prefix o p (46 ∷ (x ++ bs))) prefix
+    ∙ ap (λ y. scope_prefix_token s p y) (after_dot x bs n stop)
+    ∙ scope_prefix_is s p x n
 
-pub my_prefix : prefix_of (codes "MY") ≡ Some My
-unfolding prefix_of
+pub my_prefix : scope_of_prefix (codes "MY") ≡ Some My
+unfolding scope_of_prefix
 my_prefix = refl
 
-pub target_prefix : prefix_of (codes "TARGET") ≡ Some Target
-unfolding prefix_of
+pub target_prefix : scope_of_prefix (codes "TARGET") ≡ Some Target
+unfolding scope_of_prefix
 target_prefix = refl
 
 pub my_no_word : word_of (codes "MY") ≡ None
@@ -237,14 +237,14 @@ digits_at ds bs digits some stop dot =
     let back : drop (length ds) (ds ++ bs) ≡ bs = drop_at ds bs _ refl in
     let none : tail_length bs ≡ 0 = no_tail bs stop dot in
     at_digit (ds ++ bs) (first_digit ds bs all some)
-    ∙ (λ i. (numeral (take (n i) (ds ++ bs)) (take (tail_length (drop (n i) (ds ++ bs))) (drop (n i) (ds ++ bs))), n i + tail_length (drop (n i) (ds ++ bs))))
-    ∙ (λ i. (numeral (front i) (take (tail_length (back i)) (back i)), length ds + tail_length (back i)))
-    ∙ (λ i. (numeral ds (take (none i) bs), length ds + none i))
+    ∙ (λ i. (numeral_token (take (n i) (ds ++ bs)) (take (tail_length (drop (n i) (ds ++ bs))) (drop (n i) (ds ++ bs))), n i + tail_length (drop (n i) (ds ++ bs))))
+    ∙ (λ i. (numeral_token (front i) (take (tail_length (back i)) (back i)), length ds + tail_length (back i)))
+    ∙ (λ i. (numeral_token ds (take (none i) bs), length ds + none i))
     ∙ ap (λ m. (integer_token ds, m)) (omega arith)
 
 -- digits, a dot and digits, that no byte of a name follows
 pub decimals_at : (ds fs bs : List ℕ) → all_ascii_digits ds ≡ true → 0 < length ds → all_ascii_digits fs ≡ true → is_name_byte (get_or bs 0 0) ≡ false
-    → token_at (ds ++ 46 ∷ (fs ++ bs)) ≡ (numeral ds fs, length ds + (1 + length fs))
+    → token_at (ds ++ 46 ∷ (fs ++ bs)) ≡ (numeral_token ds fs, length ds + (1 + length fs))
 unfolding number_token
 decimals_at ds fs bs digits some fraction stop =
     let all = digits_all ds digits in
@@ -255,10 +255,10 @@ decimals_at ds fs bs digits some fraction stop =
     let one : 1 + length fs ≡ suc (length fs) = omega arith in
     let these : take (1 + length fs) (46 ∷ (fs ++ bs)) ≡ 46 ∷ fs = ap (λ k. take k (46 ∷ (fs ++ bs))) one ∙ ap (λ l. 46 ∷ l) (take_at fs bs _ refl) in
     at_digit (ds ++ 46 ∷ (fs ++ bs)) (first_digit ds (46 ∷ (fs ++ bs)) all some)
-    ∙ (λ i. (numeral (take (n i) (ds ++ 46 ∷ (fs ++ bs))) (take (tail_length (drop (n i) (ds ++ 46 ∷ (fs ++ bs)))) (drop (n i) (ds ++ 46 ∷ (fs ++ bs)))), n i + tail_length (drop (n i) (ds ++ 46 ∷ (fs ++ bs)))))
-    ∙ (λ i. (numeral (front i) (take (tail_length (back i)) (back i)), length ds + tail_length (back i)))
-    ∙ (λ i. (numeral ds (take (tail i) (46 ∷ (fs ++ bs))), length ds + tail i))
-    ∙ ap (λ l. (numeral ds l, length ds + (1 + length fs))) these
+    ∙ (λ i. (numeral_token (take (n i) (ds ++ 46 ∷ (fs ++ bs))) (take (tail_length (drop (n i) (ds ++ 46 ∷ (fs ++ bs)))) (drop (n i) (ds ++ 46 ∷ (fs ++ bs)))), n i + tail_length (drop (n i) (ds ++ 46 ∷ (fs ++ bs)))))
+    ∙ (λ i. (numeral_token (front i) (take (tail_length (back i)) (back i)), length ds + tail_length (back i)))
+    ∙ (λ i. (numeral_token ds (take (tail i) (46 ∷ (fs ++ bs))), length ds + tail i))
+    ∙ ap (λ l. (numeral_token ds l, length ds + (1 + length fs))) these
 
 pub integer_at : (n : ℕ) (bs : List ℕ) → n < 2 ^ 63 → is_name_byte (get_or bs 0 0) ≡ false → eqb (get_or bs 0 0) 46 ≡ false → token_at (decimal n ++ bs) ≡ (token.Int (pos n), length (decimal n))
 integer_at n bs small stop dot =
@@ -268,16 +268,16 @@ integer_at n bs small stop dot =
     ∙ ap (λ c. (cond c (token.Int (pos n)) token.Range, length (decimal n))) (lt-ltb n (2 ^ 63) small)
 
 -- strings
-closing_step : (behind : Bool) (b : ℕ) (bs : List ℕ) → eqb b 10 ≡ false → (eqb b 34) && not behind ≡ false → closing behind (b ∷ bs) ≡ option_map (λ n. n + 1) (closing ((eqb b 92) && not behind) bs)
-closing_step behind b bs line quote =
-    ap (λ c. cond c None (cond ((eqb b 34) && not behind) (Some 0) (option_map (λ n. n + 1) (closing ((eqb b 92) && not behind) bs)))) line
-    ∙ ap (λ c. cond c (Some 0) (option_map (λ n. n + 1) (closing ((eqb b 92) && not behind) bs))) quote
+closing_step : (escaped : Bool) (b : ℕ) (bs : List ℕ) → eqb b 10 ≡ false → (eqb b 34) && not escaped ≡ false → closing_quote escaped (b ∷ bs) ≡ option_map (λ n. n + 1) (closing_quote ((eqb b 92) && not escaped) bs)
+closing_step escaped b bs line quote =
+    ap (λ c. cond c None (cond ((eqb b 34) && not escaped) (Some 0) (option_map (λ n. n + 1) (closing_quote ((eqb b 92) && not escaped) bs)))) line
+    ∙ ap (λ c. cond c (Some 0) (option_map (λ n. n + 1) (closing_quote ((eqb b 92) && not escaped) bs))) quote
 
 and_false : (b : Bool) → b && false ≡ false
 and_false true = refl
 and_false false = refl
 
-closing_escape_text : (s bs : List ℕ) → list_all (λ b. not (eqb b 10)) s ≡ true → closing false (flat_map escape_text s ++ 34 ∷ bs) ≡ Some (length (flat_map escape_text s))
+closing_escape_text : (s bs : List ℕ) → list_all (λ b. not (eqb b 10)) s ≡ true → closing_quote false (flat_map escape_text s ++ 34 ∷ bs) ≡ Some (length (flat_map escape_text s))
 closing_escape_text [] bs h = refl
 closing_escape_text (b ∷ s) bs h =
     let p = both (not (eqb b 10)) _ h in
@@ -286,37 +286,37 @@ closing_escape_text (b ∷ s) bs h =
     more : (k : ℕ) → k + 1 ≡ suc k
     more k = omega arith
 
-    held : eqb b 10 ≡ false → closing false (flat_map escape_text s ++ 34 ∷ bs) ≡ Some (length (flat_map escape_text s)) → closing false (92 ∷ b ∷ (flat_map escape_text s ++ 34 ∷ bs)) ≡ Some (suc (suc (length (flat_map escape_text s))))
+    held : eqb b 10 ≡ false → closing_quote false (flat_map escape_text s ++ 34 ∷ bs) ≡ Some (length (flat_map escape_text s)) → closing_quote false (92 ∷ b ∷ (flat_map escape_text s ++ 34 ∷ bs)) ≡ Some (suc (suc (length (flat_map escape_text s))))
     held line rest =
         ap (λ o. option_map (λ n. n + 1) o) (
         closing_step true b (flat_map escape_text s ++ 34 ∷ bs) line (and_false (eqb b 34))
-        ∙ ap (λ k. option_map (λ n. n + 1) (closing k (flat_map escape_text s ++ 34 ∷ bs))) (and_false (eqb b 92))
+        ∙ ap (λ k. option_map (λ n. n + 1) (closing_quote k (flat_map escape_text s ++ 34 ∷ bs))) (and_false (eqb b 92))
         ∙ ap (λ o. option_map (λ n. n + 1) o) rest)
         ∙ ap (λ k. Some k) (omega arith)
 
-    by : (q w : Bool) → eqb b 34 ≡ q → eqb b 92 ≡ w → eqb b 10 ≡ false → closing false (flat_map escape_text s ++ 34 ∷ bs) ≡ Some (length (flat_map escape_text s))
-        → closing false ((cond (q || w) (92 ∷ b ∷ []) (b ∷ []) ++ flat_map escape_text s) ++ 34 ∷ bs) ≡ Some (length (cond (q || w) (92 ∷ b ∷ []) (b ∷ []) ++ flat_map escape_text s))
+    by : (q w : Bool) → eqb b 34 ≡ q → eqb b 92 ≡ w → eqb b 10 ≡ false → closing_quote false (flat_map escape_text s ++ 34 ∷ bs) ≡ Some (length (flat_map escape_text s))
+        → closing_quote false ((cond (q || w) (92 ∷ b ∷ []) (b ∷ []) ++ flat_map escape_text s) ++ 34 ∷ bs) ≡ Some (length (cond (q || w) (92 ∷ b ∷ []) (b ∷ []) ++ flat_map escape_text s))
     by true w e f line rest = held line rest
     by false true e f line rest = held line rest
     by false false e f line rest =
         closing_step false b (flat_map escape_text s ++ 34 ∷ bs) line (ap (λ c. c && true) e)
-        ∙ ap (λ c. option_map (λ n. n + 1) (closing (c && true) (flat_map escape_text s ++ 34 ∷ bs))) f
+        ∙ ap (λ c. option_map (λ n. n + 1) (closing_quote (c && true) (flat_map escape_text s ++ 34 ∷ bs))) f
         ∙ ap (λ o. option_map (λ n. n + 1) o) rest
         ∙ ap (λ k. Some k) (more _)
 
-pub unescaped_escape_text : (s : List ℕ) → unescaped false (flat_map escape_text s) ≡ s
-unescaped_escape_text [] = refl
-unescaped_escape_text (b ∷ s) = by (eqb b 34) (eqb b 92) refl refl (unescaped_escape_text s)
+pub unescape_text_escape_text : (s : List ℕ) → unescape_text false (flat_map escape_text s) ≡ s
+unescape_text_escape_text [] = refl
+unescape_text_escape_text (b ∷ s) = by (eqb b 34) (eqb b 92) refl refl (unescape_text_escape_text s)
   where
-    held : (eqb b 34) || (eqb b 92) ≡ true → unescaped false (flat_map escape_text s) ≡ s → unescaped true (b ∷ flat_map escape_text s) ≡ b ∷ s
-    held e rest = ap (λ c. cond c (b ∷ unescaped false (flat_map escape_text s)) (92 ∷ b ∷ unescaped false (flat_map escape_text s))) e ∙ ap (λ l. b ∷ l) rest
+    held : (eqb b 34) || (eqb b 92) ≡ true → unescape_text false (flat_map escape_text s) ≡ s → unescape_text true (b ∷ flat_map escape_text s) ≡ b ∷ s
+    held e rest = ap (λ c. cond c (b ∷ unescape_text false (flat_map escape_text s)) (92 ∷ b ∷ unescape_text false (flat_map escape_text s))) e ∙ ap (λ l. b ∷ l) rest
 
-    by : (q w : Bool) → eqb b 34 ≡ q → eqb b 92 ≡ w → unescaped false (flat_map escape_text s) ≡ s → unescaped false (cond (q || w) (92 ∷ b ∷ []) (b ∷ []) ++ flat_map escape_text s) ≡ b ∷ s
+    by : (q w : Bool) → eqb b 34 ≡ q → eqb b 92 ≡ w → unescape_text false (flat_map escape_text s) ≡ s → unescape_text false (cond (q || w) (92 ∷ b ∷ []) (b ∷ []) ++ flat_map escape_text s) ≡ b ∷ s
     by true w e f rest = held (ap (λ c. c || (eqb b 92)) e) rest
     by false true e f rest = held ((λ i. e i || f i)) rest
-    by false false e f rest = ap (λ c. cond c (unescaped true (flat_map escape_text s)) (b ∷ unescaped false (flat_map escape_text s))) f ∙ ap (λ l. b ∷ l) rest
+    by false false e f rest = ap (λ c. cond c (unescape_text true (flat_map escape_text s)) (b ∷ unescape_text false (flat_map escape_text s))) f ∙ ap (λ l. b ∷ l) rest
 
-at_quote : (bs : List ℕ) → token_at (34 ∷ bs) ≡ string_to (closing false bs) bs
+at_quote : (bs : List ℕ) → token_at (34 ∷ bs) ≡ string_to (closing_quote false bs) bs
 unfolding token_at string_token
 at_quote bs = refl
 
@@ -328,6 +328,6 @@ string_at s bs h =
     ap (λ l. token_at (34 ∷ l)) whole
     ∙ at_quote (flat_map escape_text s ++ 34 ∷ bs)
     ∙ ap (λ o. string_to o (flat_map escape_text s ++ 34 ∷ bs)) (closing_escape_text s bs h)
-    ∙ ap (λ l. (token.Str (unescaped false l), length (flat_map escape_text s) + 2)) (take_at (flat_map escape_text s) (34 ∷ bs) _ refl)
-    ∙ ap (λ l. (token.Str l, length (flat_map escape_text s) + 2)) (unescaped_escape_text s)
+    ∙ ap (λ l. (token.Str (unescape_text false l), length (flat_map escape_text s) + 2)) (take_at (flat_map escape_text s) (34 ∷ bs) _ refl)
+    ∙ ap (λ l. (token.Str l, length (flat_map escape_text s) + 2)) (unescape_text_escape_text s)
     ∙ ap (λ n. (token.Str s, n)) long

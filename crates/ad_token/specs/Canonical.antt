@@ -1,4 +1,5 @@
--- The canonical text of a token, and what may stand behind it.
+-- The canonical text of a token, and what may stand after it.
+use Rattle.ad_value.specs.Bytes.{code}
 use Rattle.std.specs.Prelude.{ℕ, ℤ, pos, negsuc, ◌==◌, ◌||◌, ◌&&◌, ◌^◌, not, Bool, true, false, List, [], ◌∷◌, ◌++◌, map, codes, nat_lt, slice_index, Option, Some, None, is_some}
 use Rattle.std.specs.Fmt.{signed_decimal}
 use Rattle.std.specs.List.{list_all}
@@ -11,8 +12,8 @@ use Rattle.ad_token.specs.declared.token.Bracket.TheVariants.{Round, Curly}
 use Rattle.ad_token.specs.declared.token.Token.{Token}
 use Rattle.ad_token.specs.declared.token.Token.TheVariants as token
 use Rattle.ad_token.specs.declared.token.Placed.{Placed}
-use Rattle.ad_token.specs.Names.{is_letter, is_name_byte, is_too_long, word_of, prefix_of}
-use Rattle.ad_token.specs.Lexing.{is_refused, tokens_of}
+use Rattle.ad_token.specs.Names.{is_letter, is_name_byte, is_too_long, word_of, scope_of_prefix}
+use Rattle.ad_token.specs.Lexing.{ends_the_tokens, tokens_of}
 
 abbrev pub operator_text : BinOp → List ℕ
 operator_text bin.Or = codes "||"
@@ -59,11 +60,13 @@ token_text _ = []
 
 -- a name that is no word
 unfoldable pub is_name : List ℕ → Bool
-is_name x = is_letter (slice_index x 0) && (list_all is_name_byte x && (not (is_too_long x) && not (is_some (word_of x))))
+is_name x =
+    is_letter (slice_index x 0)
+    && (list_all is_name_byte x && (not (is_too_long x) && not (is_some (word_of x))))
 
 -- a text on one line
 unfoldable pub is_line : List ℕ → Bool
-is_line s = list_all (λ b. not (b == 10)) s
+is_line s = list_all (λ b. not (b == code "\n")) s
 
 abbrev pub is_numeral : ℤ → Bool
 is_numeral (pos n) = nat_lt n (2 ^ 63)
@@ -74,11 +77,11 @@ abbrev pub is_proper : Token → Bool
 is_proper (token.Int n) = is_numeral n
 is_proper (token.Str s) = is_line s
 is_proper (token.Name scope x) = is_name x
-is_proper t = not (is_refused t)
+is_proper t = not (ends_the_tokens t)
 
 -- what a token of any text is
 abbrev pub is_fit : Token → Bool
-is_fit t = is_refused t || is_proper t
+is_fit t = ends_the_tokens t || is_proper t
 
 -- whether a token's text ends where a byte follows; 0 stands for the end of the text
 abbrev pub ends_before : Token → ℕ → Bool
@@ -86,26 +89,39 @@ ends_before token.Undefined b = not (is_name_byte b)
 ends_before token.Error b = not (is_name_byte b)
 ends_before token.True b = not (is_name_byte b)
 ends_before token.False b = not (is_name_byte b)
-ends_before (token.Int n) b = not (is_name_byte b || (b == 46))
-ends_before (token.Name Bare x) b = not (is_name_byte b || ((b == 46) && is_some (prefix_of x)))
+ends_before (token.Int n) b = not (is_name_byte b || (b == code "."))
+ends_before (token.Name Bare x) b =
+    not (is_name_byte b || ((b == code ".") && is_some (scope_of_prefix x)))
 ends_before (token.Name scope x) b = not (is_name_byte b)
-ends_before (token.Op bin.Less) b = not (b == 61)
-ends_before (token.Op bin.Greater) b = not (b == 61)
-ends_before token.Not b = not (b == 61)
-ends_before token.Question b = not (b == 58)
+ends_before (token.Op bin.Less) b = not (b == code "=")
+ends_before (token.Op bin.Greater) b = not (b == code "=")
+ends_before token.Not b = not (b == code "=")
+ends_before token.Question b = not (b == code ":")
 ends_before _ b = true
 
--- the tokens of a text, wherever they stand
+-- the same of the text that follows
+abbrev pub ends_at : Token → List ℕ → Bool
+ends_at t bs = ends_before t (slice_index bs 0)
+
+-- a token and the offset of its first byte
+abbrev pub placed_token : ℕ → Token → Placed
+placed_token at t = record { at = at; token = t }
+
+-- tokens, wherever they stand
 abbrev pub token_of : Placed → Token
 token_of p = p.token
 
+abbrev pub tokens_in : List Placed → List Token
+tokens_in ps = map token_of ps
+
+-- the tokens of a text, wherever they stand
 abbrev pub kinds_of : List ℕ → List Token
-kinds_of bs = map token_of (tokens_of bs)
+kinds_of bs = tokens_in (tokens_of bs)
 
 -- a text made of tokens and, for each None, a blank
 abbrev pub joined_text : List (Option Token) → List ℕ
 joined_text [] = []
-joined_text (None ∷ ps) = 32 ∷ joined_text ps
+joined_text (None ∷ ps) = code " " ∷ joined_text ps
 joined_text (Some t ∷ ps) = token_text t ++ joined_text ps
 
 abbrev pub joined_tokens : List (Option Token) → List Token
@@ -117,4 +133,4 @@ joined_tokens (Some t ∷ ps) = t ∷ joined_tokens ps
 abbrev pub are_apart : List (Option Token) → Bool
 are_apart [] = true
 are_apart (None ∷ ps) = are_apart ps
-are_apart (Some t ∷ ps) = is_proper t && (ends_before t (slice_index (joined_text ps) 0) && are_apart ps)
+are_apart (Some t ∷ ps) = is_proper t && (ends_at t (joined_text ps) && are_apart ps)

@@ -1,4 +1,6 @@
--- Operators, brackets and other marks; the longest one is taken (HTCondor manual, "ClassAd syntax").
+-- Operators, brackets and other marks; the longest one is taken (HTCondor manual,
+-- "ClassAd syntax").
+use Rattle.ad_value.specs.Bytes.{code}
 use Rattle.std.specs.Prelude.{ℕ, ◌==◌, Bool, List, codes, nat_eq, slice_index, Option, Some, None, if◌then◌else◌}
 use Rattle.std.specs.List.{starts_with}
 use Rattle.ad_tree.specs.declared.operator.BinOp.TheVariants as bin
@@ -6,46 +8,46 @@ use Rattle.ad_token.specs.declared.token.Bracket.TheVariants.{Round, Curly}
 use Rattle.ad_token.specs.declared.token.Token.{Token}
 use Rattle.ad_token.specs.declared.token.Token.TheVariants as token
 
-abbrev pub begins : List ℕ → List ℕ → Bool
-begins bs mark = starts_with nat_eq bs mark
+abbrev pub begins_with : List ℕ → List ℕ → Bool
+begins_with bs mark = starts_with nat_eq bs mark
 
 -- the marks of three bytes
 unfoldable pub mark_of_three : List ℕ → Option Token
 mark_of_three bs =
-    if begins bs (codes "=?=") then Some (token.Op bin.Same)
-    else (if begins bs (codes "=!=") then Some (token.Op bin.NotSame)
+    if begins_with bs (codes "=?=") then Some (token.Op bin.Same)
+    else (if begins_with bs (codes "=!=") then Some (token.Op bin.NotSame)
     else None)
 
 -- the marks of two bytes
 unfoldable pub mark_of_two : List ℕ → Option Token
 mark_of_two bs =
-    if begins bs (codes "==") then Some (token.Op bin.Equal)
-    else (if begins bs (codes "!=") then Some (token.Op bin.NotEqual)
-    else (if begins bs (codes "<=") then Some (token.Op bin.LessEqual)
-    else (if begins bs (codes ">=") then Some (token.Op bin.GreaterEqual)
-    else (if begins bs (codes "&&") then Some (token.Op bin.And)
-    else (if begins bs (codes "||") then Some (token.Op bin.Or)
-    else (if begins bs (codes "?:") then Some token.OrElse
+    if begins_with bs (codes "==") then Some (token.Op bin.Equal)
+    else (if begins_with bs (codes "!=") then Some (token.Op bin.NotEqual)
+    else (if begins_with bs (codes "<=") then Some (token.Op bin.LessEqual)
+    else (if begins_with bs (codes ">=") then Some (token.Op bin.GreaterEqual)
+    else (if begins_with bs (codes "&&") then Some (token.Op bin.And)
+    else (if begins_with bs (codes "||") then Some (token.Op bin.Or)
+    else (if begins_with bs (codes "?:") then Some token.OrElse
     else None))))))
 
--- the marks of one byte: < > + - * / % ! ? : , ( ) { }
+-- the marks of one byte
 unfoldable pub mark_of_one : ℕ → Token
 mark_of_one b =
-    if b == 60 then token.Op bin.Less
-    else (if b == 62 then token.Op bin.Greater
-    else (if b == 43 then token.Op bin.Add
-    else (if b == 45 then token.Op bin.Subtract
-    else (if b == 42 then token.Op bin.Multiply
-    else (if b == 47 then token.Op bin.Divide
-    else (if b == 37 then token.Op bin.Modulo
-    else (if b == 33 then token.Not
-    else (if b == 63 then token.Question
-    else (if b == 58 then token.Colon
-    else (if b == 44 then token.Comma
-    else (if b == 40 then token.Open Round
-    else (if b == 41 then token.Close Round
-    else (if b == 123 then token.Open Curly
-    else (if b == 125 then token.Close Curly
+    if b == code "<" then token.Op bin.Less
+    else (if b == code ">" then token.Op bin.Greater
+    else (if b == code "+" then token.Op bin.Add
+    else (if b == code "-" then token.Op bin.Subtract
+    else (if b == code "*" then token.Op bin.Multiply
+    else (if b == code "/" then token.Op bin.Divide
+    else (if b == code "%" then token.Op bin.Modulo
+    else (if b == code "!" then token.Not
+    else (if b == code "?" then token.Question
+    else (if b == code ":" then token.Colon
+    else (if b == code "," then token.Comma
+    else (if b == code "(" then token.Open Round
+    else (if b == code ")" then token.Close Round
+    else (if b == code "{" then token.Open Curly
+    else (if b == code "}" then token.Close Curly
     else token.Bad))))))))))))))
 
 abbrev pub longest : Option Token → Option Token → Token → Token × ℕ
@@ -53,6 +55,6 @@ longest (Some t) two one = (t, 3)
 longest None (Some t) one = (t, 2)
 longest None None one = (one, 1)
 
--- the mark at the front, and its length
+-- the mark that a text begins with, and its length
 unfoldable pub mark_token : List ℕ → Token × ℕ
 mark_token bs = longest (mark_of_three bs) (mark_of_two bs) (mark_of_one (slice_index bs 0))

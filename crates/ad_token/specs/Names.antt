@@ -1,4 +1,6 @@
--- Names, the words that are none, and the prefixes before names (HTCondor manual, "ClassAd syntax").
+-- Names, the words that are none, and the prefixes before names (HTCondor manual,
+-- "ClassAd syntax").
+use Rattle.ad_value.specs.Bytes.{code}
 use Rattle.std.specs.Prelude.{ℕ, ◌+◌, ◌==◌, ◌||◌, Bool, List, [], ◌∷◌, length, take, drop, codes, nat_lt, slice_index, Option, Some, None, is_some, if◌then◌else◌}
 use Rattle.std.specs.Char.{is_ascii_alphabetic, is_ascii_digit}
 use Rattle.std.specs.List.{prefix_len}
@@ -6,25 +8,26 @@ use Rattle.ad_value.specs.Names.{same_name}
 use Rattle.ad_tree.specs.declared.operator.BinOp.TheVariants as bin
 use Rattle.ad_tree.specs.declared.operator.Scope.{Scope}
 use Rattle.ad_tree.specs.declared.operator.Scope.TheVariants.{Bare, My, Target}
+use Rattle.ad_token.specs.declared.names.TheConstants.{MAX_NAME}
 use Rattle.ad_token.specs.declared.token.Token.{Token}
 use Rattle.ad_token.specs.declared.token.Token.TheVariants as token
 
 -- an ASCII letter or `_`
 abbrev pub is_letter : ℕ → Bool
-is_letter b = is_ascii_alphabetic b || (b == 95)
+is_letter b = is_ascii_alphabetic b || (b == code "_")
 
 abbrev pub is_name_byte : ℕ → Bool
 is_name_byte b = is_letter b || is_ascii_digit b
 
--- how long the name at the front is, 0 where none begins
+-- how long the name is that a text begins with, 0 where none begins
 abbrev pub name_length : List ℕ → ℕ
 name_length bs = if is_letter (slice_index bs 0) then prefix_len is_name_byte bs else 0
 
-abbrev pub name_of : List ℕ → List ℕ
-name_of bs = take (name_length bs) bs
+abbrev pub leading_name : List ℕ → List ℕ
+leading_name bs = take (name_length bs) bs
 
 abbrev pub is_too_long : List ℕ → Bool
-is_too_long name = nat_lt 128 (length name)
+is_too_long name = nat_lt MAX_NAME (length name)
 
 -- the words, without case
 unfoldable pub word_of : List ℕ → Option Token
@@ -37,38 +40,50 @@ word_of name =
     else (if same_name name (codes "ISNT") then Some (token.Op bin.NotSame)
     else None)))))
 
-unfoldable pub prefix_of : List ℕ → Option Scope
-prefix_of name = if same_name name (codes "MY") then Some My else (if same_name name (codes "TARGET") then Some Target else None)
+-- the prefixes, without case
+unfoldable pub scope_of_prefix : List ℕ → Option Scope
+scope_of_prefix name =
+    if same_name name (codes "MY") then Some My
+    else (if same_name name (codes "TARGET") then Some Target
+    else None)
 
--- the name behind a dot at the front; empty where no dot is there, and no name or a word behind it
+-- a name that is no word, or nothing
 abbrev pub unless_word : List ℕ → List ℕ
 unless_word name = if is_some (word_of name) then [] else name
 
-unfoldable pub name_behind_dot : List ℕ → List ℕ
-name_behind_dot bs = if slice_index bs 0 == 46 then unless_word (name_of (drop 1 bs)) else []
+-- the name after the dot that a text begins with; empty where there is no dot, and where no name
+-- or a word comes after it
+unfoldable pub name_after_dot : List ℕ → List ℕ
+name_after_dot bs =
+    if slice_index bs 0 == code "." then unless_word (leading_name (drop 1 bs))
+    else []
 
 -- a name with nothing before it
-abbrev pub bare : List ℕ → Token
-bare name = token.Name Bare name
+abbrev pub bare_name : List ℕ → Token
+bare_name name = token.Name Bare name
 
--- A name that may be a prefix, and the name behind its dot. Where that one is too long, the dot belongs to
--- the first, so that what is refused is the second.
-unfoldable pub scoped : Scope → List ℕ → List ℕ → Token × ℕ
-scoped scope prefix [] = (bare prefix, length prefix)
-scoped scope prefix (b ∷ bs) = if is_too_long (b ∷ bs) then (bare prefix, length prefix + 1) else (token.Name scope (b ∷ bs), length prefix + 1 + length (b ∷ bs))
+-- A name that may be a prefix, and the name after its dot. Where that one is too long, the dot
+-- belongs to the first, so that what is refused is the second.
+unfoldable pub scope_prefix_token : Scope → List ℕ → List ℕ → Token × ℕ
+scope_prefix_token scope prefix [] = (bare_name prefix, length prefix)
+scope_prefix_token scope prefix (b ∷ bs) =
+    if is_too_long (b ∷ bs) then (bare_name prefix, length prefix + 1)
+    else (token.Name scope (b ∷ bs), length prefix + 1 + length (b ∷ bs))
 
-abbrev pub perhaps_scoped : Option Scope → List ℕ → List ℕ → Token × ℕ
-perhaps_scoped None name after = (bare name, length name)
-perhaps_scoped (Some scope) name after = scoped scope name (name_behind_dot after)
+abbrev pub perhaps_scope_prefix : Option Scope → List ℕ → List ℕ → Token × ℕ
+perhaps_scope_prefix None name after = (bare_name name, length name)
+perhaps_scope_prefix (Some scope) name after = scope_prefix_token scope name (name_after_dot after)
 
 abbrev pub perhaps_word : Option Token → List ℕ → List ℕ → Token × ℕ
 perhaps_word (Some word) name after = (word, length name)
-perhaps_word None name after = perhaps_scoped (prefix_of name) name after
+perhaps_word None name after = perhaps_scope_prefix (scope_of_prefix name) name after
 
 -- the token of a name and of the text after it
-abbrev pub named : List ℕ → List ℕ → Token × ℕ
-named name after = if is_too_long name then (token.Bad, length name) else perhaps_word (word_of name) name after
+abbrev pub token_of_name : List ℕ → List ℕ → Token × ℕ
+token_of_name name after =
+    if is_too_long name then (token.Bad, length name)
+    else perhaps_word (word_of name) name after
 
 -- the token that begins with a letter, and its length
 unfoldable pub name_token : List ℕ → Token × ℕ
-name_token bs = named (name_of bs) (drop (name_length bs) bs)
+name_token bs = token_of_name (leading_name bs) (drop (name_length bs) bs)

@@ -1,5 +1,5 @@
 ghost use Rattle.std.specs.Prelude.{◌≡◌, ◌<◌, IfOk, length};
-ghost use Rattle.ad_token.specs.Lexing.{is_blank, is_refused, token_at, tokens_of};
+ghost use Rattle.ad_token.specs.Lexing.{is_blank, ends_the_tokens, token_at, tokens_of};
 
 use crate::marks::mark_token;
 use crate::names::{is_letter, name_token};
@@ -9,7 +9,7 @@ use crate::token::{Placed, Token};
 use ad_value::Memory;
 use std::alloc::Global;
 
-/// Whether a byte is a space or a tab.
+/// Whether a byte is a space or a tab. Computes in O(1).
 pub fn is_blank(b: u8) -> bool
     ensures { result ≡ is_blank b }
 {
@@ -17,14 +17,14 @@ pub fn is_blank(b: u8) -> bool
 }
 
 // Whether a token stands in no expression.
-fn is_refused(token: &Token) -> bool
-    ensures { result ≡ is_refused token.now }
+fn ends_the_tokens(token: &Token) -> bool
+    ensures { result ≡ ends_the_tokens token.now }
 {
     matches!(token, Token::Real | Token::Range | Token::Bad)
 }
 
-// The token at the front, and its length in bytes. The length of a token that stands in no expression tells
-// nothing.
+// The token that a text begins with, and its length in bytes. The length of a token that stands in
+// no expression tells nothing.
 #[tactic(auto, unfolding(crate::specs::Lexing::token_at))]
 fn next_token(alloc: Global, text: &str) -> Result<(Token, usize), Memory>
     requires { 0 < length text.now }
@@ -44,8 +44,9 @@ fn next_token(alloc: Global, text: &str) -> Result<(Token, usize), Memory>
     }
 }
 
-/// The tokens of a text and their offsets in bytes, up to the first that stands in no expression and with it (HTCondor
-/// manual, "ClassAd syntax"). Fails only where memory runs out. Takes time that grows as the text's length.
+/// The tokens of a text and their offsets in bytes, up to the first that stands in no expression
+/// and with it (HTCondor manual, "ClassAd syntax"). Fails only where memory runs out. Computes in
+/// O(bytes).
 pub fn tokens(alloc: Global, text: &str) -> Result<Vec<Placed>, Memory>
     ensures { IfOk result (λ v. v.items ≡ tokens_of text.now) }
 {
@@ -60,7 +61,7 @@ pub fn tokens(alloc: Global, text: &str) -> Result<Vec<Placed>, Memory>
             continue;
         }
         let (token, length) = next_token(alloc, rest)?;
-        let ends = is_refused(&token);
+        let ends = ends_the_tokens(&token);
         list.push(Placed { at, token })?;
         if ends {
             return Ok(list);

@@ -64,7 +64,8 @@ fn mark_of_one(b: u8) -> Token
     }
 }
 
-/// The mark at the front, or a byte that is none, and its length in bytes.
+/// The mark that bytes begin with, or a byte that is none, and its length in bytes. Computes in
+/// O(1).
 #[tactic(auto, unfolding(crate::specs::Marks::mark_token))]
 pub fn mark_token(bytes: &[u8]) -> (Token, usize)
     requires { 0 < length bytes.now }

@@ -1,16 +1,16 @@
 ghost use Rattle.std.specs.Prelude.{◌≡◌, ◌≤◌, IfOk, length, IsCharBoundary};
 ghost use Rattle.std.specs.List.{prefix_len};
-ghost use Rattle.ad_token.specs.Names.{is_letter, is_name_byte, name_length, name_of, is_too_long, word_of, prefix_of, unless_word, name_behind_dot, bare, scoped, name_token};
+ghost use Rattle.ad_token.specs.Names.{is_letter, is_name_byte, name_length, leading_name, is_too_long, word_of, scope_of_prefix, unless_word, name_after_dot, bare_name, scope_prefix_token, name_token};
 
 use crate::token::Token;
 use ad_tree::{BinOp, Scope};
 use ad_value::{Memory, Text};
 use std::alloc::Global;
 
-/// The bytes of the longest name.
+/// How many bytes the longest name has.
 pub const MAX_NAME: usize = 128;
 
-/// Whether a byte begins a name.
+/// Whether a byte begins a name. Computes in O(1).
 pub fn is_letter(b: u8) -> bool
     ensures { result ≡ is_letter b }
 {
@@ -23,7 +23,7 @@ fn is_name_byte(b: u8) -> bool
     is_letter(b) || b.is_ascii_digit()
 }
 
-// How many bytes at the front may stand in a name.
+// How many bytes may stand in a name, up to the first that may not.
 fn run_length(bytes: &[u8]) -> usize
     ensures value { result ≡ prefix_len is_name_byte bytes.now }
     ensures within { result ≤ length bytes.now }
@@ -31,7 +31,8 @@ fn run_length(bytes: &[u8]) -> usize
     bytes.iter().take_while(|b| is_name_byte(**b)).count()
 }
 
-/// How many bytes the name at the front has, 0 where none begins. Takes time that grows as the name.
+/// How many bytes the name has that bytes begin with, 0 where none begins. Computes in O(bytes of
+/// the name).
 pub fn name_length(bytes: &[u8]) -> usize
     ensures value { result ≡ name_length bytes.now }
     ensures within { result ≤ length bytes.now }
@@ -42,10 +43,10 @@ pub fn name_length(bytes: &[u8]) -> usize
     }
 }
 
-// The name at the front, empty where none begins.
-#[tactic(auto, using(crate::proofs::Fronts::name_boundary))]
-fn name_of(text: &str) -> &str
-    ensures { result.now ≡ name_of text.now }
+// The name that a text begins with, empty where none begins.
+#[tactic(auto, using(crate::proofs::Prefixes::name_boundary))]
+fn leading_name(text: &str) -> &str
+    ensures { result.now ≡ leading_name text.now }
 {
     &text[..name_length(text.as_bytes())]
 }
@@ -56,7 +57,7 @@ fn is_too_long(name: &str) -> bool
     name.len() > MAX_NAME
 }
 
-/// The token of a word that is no name, without ASCII case.
+/// The token of a word that is no name, without ASCII case. Computes in O(1).
 #[tactic(auto, unfolding(crate::specs::Names::word_of))]
 pub fn word(name: &str) -> Option<Token>
     ensures { result ≡ word_of name.now }
@@ -78,9 +79,10 @@ pub fn word(name: &str) -> Option<Token>
     }
 }
 
-#[tactic(auto, unfolding(crate::specs::Names::prefix_of))]
-fn prefix(name: &str) -> Option<Scope>
-    ensures { result ≡ prefix_of name.now }
+// The scope that a name stands for before a dot.
+#[tactic(auto, unfolding(crate::specs::Names::scope_of_prefix))]
+fn scope_of_prefix(name: &str) -> Option<Scope>
+    ensures { result ≡ scope_of_prefix name.now }
 {
     if name.eq_ignore_ascii_case("MY") {
         Some(Scope::My)
@@ -100,18 +102,20 @@ fn unless_word(name: &str) -> &str
     }
 }
 
-#[tactic(auto, using(crate::proofs::Fronts::past_first), unfolding(crate::specs::Names::name_behind_dot))]
-fn name_behind_dot(text: &str) -> &str
-    ensures { result.now ≡ name_behind_dot text.now }
+#[tactic(auto, unfolding(crate::specs::Names::name_after_dot))]
+fn name_after_dot(text: &str) -> &str
+    ensures { result.now ≡ name_after_dot text.now }
 {
     if !text.starts_with('.') {
         return "";
     }
-    unless_word(name_of(&text[1..]))
+    #[tactic(auto, using(crate::proofs::Prefixes::past_first))]
+    let rest = &text[1..];
+    unless_word(leading_name(rest))
 }
 
-fn bare(alloc: Global, name: &str) -> Result<Token, Memory>
-    ensures { IfOk result (λ t. t ≡ bare name.now) }
+fn bare_name(alloc: Global, name: &str) -> Result<Token, Memory>
+    ensures { IfOk result (λ t. t ≡ bare_name name.now) }
 {
     let text = Text::from_str(alloc, name)?;
     Ok(Token::Name {
@@ -120,26 +124,33 @@ fn bare(alloc: Global, name: &str) -> Result<Token, Memory>
     })
 }
 
-#[tactic(auto, unfolding(crate::specs::Names::scoped))]
-fn scoped(alloc: Global, scope: Scope, prefix: &str, name: &str) -> Result<(Token, usize), Memory>
-    requires { length prefix.now ≤ 128 }
-    ensures { IfOk result (λ t. t ≡ scoped scope prefix.now name.now) }
+// The token of a prefix and of the name after its dot.
+#[tactic(auto, unfolding(crate::specs::Names::scope_prefix_token))]
+fn scope_prefix_token(
+    alloc: Global,
+    scope: Scope,
+    prefix: &str,
+    name: &str,
+) -> Result<(Token, usize), Memory>
+    requires { length prefix.now ≤ MAX_NAME }
+    ensures { IfOk result (λ t. t ≡ scope_prefix_token scope prefix.now name.now) }
 {
     if name.is_empty() {
-        return Ok((bare(alloc, prefix)?, prefix.len()));
+        return Ok((bare_name(alloc, prefix)?, prefix.len()));
     }
     if is_too_long(name) {
-        return Ok((bare(alloc, prefix)?, prefix.len() + 1));
+        return Ok((bare_name(alloc, prefix)?, prefix.len() + 1));
     }
     let text = Text::from_str(alloc, name)?;
     Ok((Token::Name { scope, text }, prefix.len() + 1 + name.len()))
 }
 
-/// The token that begins with a letter, and its length in bytes.
-#[tactic(auto, using(crate::proofs::Fronts::name_boundary), unfolding(crate::specs::Names::name_token))]
+/// The token that begins with a letter, and its length in bytes. Computes in O(bytes of the token).
+#[tactic(auto, unfolding(crate::specs::Names::name_token))]
 pub fn name_token(alloc: Global, text: &str) -> Result<(Token, usize), Memory>
     ensures { IfOk result (λ t. t ≡ name_token text.now) }
 {
+    #[tactic(auto, using(crate::proofs::Prefixes::name_boundary))]
     let (name, after) = text.split_at(name_length(text.as_bytes()));
     if is_too_long(name) {
         return Ok((Token::Bad, name.len()));
@@ -147,8 +158,8 @@ pub fn name_token(alloc: Global, text: &str) -> Result<(Token, usize), Memory>
     if let Some(token) = word(name) {
         return Ok((token, name.len()));
     }
-    match prefix(name) {
-        Some(scope) => scoped(alloc, scope, name, name_behind_dot(after)),
-        None => Ok((bare(alloc, name)?, name.len())),
+    match scope_of_prefix(name) {
+        Some(scope) => scope_prefix_token(alloc, scope, name, name_after_dot(after)),
+        None => Ok((bare_name(alloc, name)?, name.len())),
     }
 }

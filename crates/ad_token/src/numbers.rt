@@ -71,8 +71,8 @@ fn has_positive_digit(bytes: &[u8]) -> bool
     bytes.iter().any(|b| (b'1'..=b'9').contains(b))
 }
 
-#[tactic(auto, using(crate::proofs::Fronts::too_large))]
-fn integer(digits: &str) -> Token
+#[tactic(auto, using(crate::proofs::Prefixes::too_large))]
+fn integer_token(digits: &str) -> Token
     requires some { 0 < length digits.now }
     requires digits { all_ascii_digits digits.now ≡ true }
     ensures { result ≡ integer_token digits.now }
@@ -83,24 +83,27 @@ fn integer(digits: &str) -> Token
     }
 }
 
-/// The token that begins with a digit, and its length in bytes.
-#[tactic(auto, using(crate::proofs::Fronts::digits_boundary, crate::proofs::Fronts::are_digits), unfolding(crate::specs::Numbers::number_token))]
+/// The token that begins with a digit, and its length in bytes. Computes in O(bytes of the token).
+#[tactic(auto, unfolding(crate::specs::Numbers::number_token))]
 pub fn number_token(text: &str) -> (Token, usize)
     requires { 0 < digits_length text.now }
     ensures { result ≡ number_token text.now }
 {
     let whole = digits_length(text.as_bytes());
+    #[tactic(auto, using(crate::proofs::Prefixes::digits_boundary))]
     let (digits, after) = text.split_at(whole);
     let tail = tail_length(after.as_bytes());
+    #[tactic(auto, using(crate::proofs::Prefixes::are_digits))]
     let token = if has_positive_digit(&after.as_bytes()[..tail]) {
         Token::Real
     } else {
-        integer(digits)
+        integer_token(digits)
     };
     (token, whole + tail)
 }
 
-/// What begins with a dot, which is refused, and its length in bytes.
+/// The token that begins with a dot, which stands in no expression, and its length in bytes.
+/// Computes in O(bytes of the digits after the dot).
 #[tactic(auto, unfolding(crate::specs::Numbers::point_token))]
 pub fn point_token(bytes: &[u8]) -> (Token, usize)
     requires { 0 < length bytes.now }

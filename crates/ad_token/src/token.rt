@@ -10,13 +10,18 @@ pub enum Bracket {
     Curly,
 }
 
-/// A token of an expression. `Real`, `Range` and `Bad` stand in no expression.
+/// A token of a text. `Real`, `Range` and `Bad` stand in no expression.
 #[derive(Debug, Drop)]
 pub enum Token {
+    /// `UNDEFINED`, without case
     Undefined,
+    /// `ERROR`, without case
     Error,
+    /// `TRUE`, without case
     True,
+    /// `FALSE`, without case
     False,
+    /// An integer, which has no sign.
     Int(i64),
     /// A string, without its quotes and escapes.
     Str(Text),
@@ -32,8 +37,11 @@ pub enum Token {
     Colon,
     /// `?:`
     OrElse,
+    /// An opening bracket.
     Open(Bracket),
+    /// A closing bracket.
     Close(Bracket),
+    /// `,`
     Comma,
     /// A number with a fraction or an exponent that is not zero.
     Real,
@@ -43,7 +51,7 @@ pub enum Token {
     Bad,
 }
 
-/// A token and the offset of its first byte.
+/// A token and the offset of its first byte, which counts bytes from 0.
 #[derive(Debug, Drop)]
 pub struct Placed {
     pub at: u64,

@@ -1,5 +1,5 @@
 -- The text of a value as a literal of an expression.
-use Prim.Native.Char.{code}
+use Rattle.ad_value.specs.Bytes.{code}
 use Rattle.std.specs.Prelude.{ℕ, ◌==◌, ◌||◌, ◌-◌, ◌^◌, ℤ, negsuc, true, false, List, [], ◌∷◌, ◌++◌, codes, if◌then◌else◌}
 use Rattle.std.specs.Fmt.{signed_decimal}
 use Rattle.std.specs.List.{flat_map}

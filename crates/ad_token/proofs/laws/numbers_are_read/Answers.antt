@@ -2,7 +2,7 @@ use Rattle.ad_token.proofs.Pieces.{digits_at, decimals_at}
 use Rattle.ad_token.proofs.laws.numbers_are_read.Goals as goal
 
 pub returns-clause-integers : goal.returns-clause-integers
-returns-clause-integers c = digits_at
+returns-clause-integers c = λ ds bs digits. digits_at ds bs digits.0 digits.1
 
 pub returns-clause-decimals : goal.returns-clause-decimals
-returns-clause-decimals c = decimals_at
+returns-clause-decimals c = λ ds fs bs digits. decimals_at ds fs bs digits.0 digits.1

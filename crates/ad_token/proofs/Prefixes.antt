@@ -1,4 +1,4 @@
--- Runs of ASCII bytes at the front of a text, and where they end.
+-- Runs of ASCII bytes that a text begins with, and where they end.
 use Rattle.std.proofs.Common.{◌≡◌, ℕ, zero, suc, pos, ℤ, ◌+◌, ◌^◌, ◌<◌, ◌≤◌, ◌&&◌, Bool, true, false, cond, ltb, List, [], ◌∷◌, length, take, get_or, Result, Err, refl, ap, sym, ◌∙◌, subst, arith, w64}
 use Rattle.std.specs.Char.{is_ascii_digit}
 use Rattle.std.specs.List.{prefix_len}
@@ -37,7 +37,7 @@ name_boundary bs utf8 = by (is_letter (get_or bs 0 0))
     by true = run_boundary is_name_byte name_byte_ascii bs _ refl utf8
     by false = IsCharBoundary-start bs utf8
 
--- a text may be cut behind its first byte, where that is ASCII
+-- a text may be cut after its first byte, where that is ASCII
 pub past_first : (bs : List ℕ) (b : ℕ) → IsUtf8 bs → 0 < length bs → get_or bs 0 0 ≡ b → b < 128 → IsCharBoundary bs 1
 past_first bs b utf8 some e h = IsCharBoundary-after_ascii bs 0 utf8 some (omega arith)
 

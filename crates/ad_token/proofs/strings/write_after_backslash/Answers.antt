@@ -1,6 +1,6 @@
 use Rattle.std.proofs.Common.{rules}
 use Rattle.ad_token.proofs.Escapes.{wrote_held}
-use Rattle.ad_token.proofs.strings.write_held.Goals as goal
+use Rattle.ad_token.proofs.strings.write_after_backslash.Goals as goal
 
 pub returns-in_ok-push-in_default-2 : goal.returns-in_ok-push-in_default-2
 returns-in_ok-push-in_default-2 c =

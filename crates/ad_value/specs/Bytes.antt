@@ -1,0 +1,2 @@
+-- Bytes by the characters that they are.
+pub use Prim.Native.Char.{code}
