@@ -11,7 +11,7 @@ use Rattle.ad_value.specs.declared.value.Value.{Value, the_lemmas}
 use Rattle.ad_value.specs.declared.value.Value.TheVariants as value
 use Rattle.ad_value.specs.declared.value.ValueList.{ValueList}
 use Rattle.ad_value.specs.Content.{Content, error, integer, items, content, contents, contents_of, list_content, list_content-contents_of}
-use Rattle.ad_func.specs.Numbers.{integer_read, size_of}
+use Rattle.ad_func.specs.Numbers.{read_integer, size_of}
 
 numeral : IsNumeralModel (λ ds. all_ascii_digits ds ≡ true) (digits_value 10)
 numeral = numerals_by_value _ tells_all_ascii_digits
@@ -26,10 +26,10 @@ by_test true (Err e) Q x h to from = absurd (h (from refl))
 by_test false (Ok n) Q x h to from = let e = to h.0 in cc
 by_test false (Err e) Q x h to from = refl
 
-pub read_is : {E : Type 0} (bs : List ℕ) (r : Result ℤ E) → ParsesSigned w64 10 bs r → get_or bs 0 0 ≢ 43 → integer_read bs ≡ read r
+pub read_is : {E : Type 0} (bs : List ℕ) (r : Result ℤ E) → ParsesSigned w64 10 bs r → get_or bs 0 0 ≢ 43 → read_integer bs ≡ read r
 read_is bs r h plus = by (starts_with_minus bs) refl
   where
-    by : (b : Bool) → starts_with_minus bs ≡ b → integer_read bs ≡ read r
+    by : (b : Bool) → starts_with_minus bs ≡ b → read_integer bs ≡ read r
     by true e = rw e (by_test _ r _ _ (parse_signed_minus numeral w64 bs r h (search (rules, tests))) (search (rules, tests)) (search (rules, tests)))
     by false e = rw e (by_test _ r _ _ (parse_signed_plain numeral w64 bs r h plus (search (rules, tests))) (search (rules, tests)) (search (rules, tests)))
 

@@ -13,7 +13,9 @@ is_undefined v = false
 
 -- an error among the arguments comes first, then an undefined one, and then the value
 abbrev pub strict : List Content → Content → Content
-strict args v = if list_any is_error args then error else (if list_any is_undefined args then undefined else v)
+strict args v =
+    if list_any is_error args then error
+    else (if list_any is_undefined args then undefined else v)
 
 -- a wrong count of arguments is an error
 abbrev pub with_none : Content → List Content → Content
@@ -37,6 +39,7 @@ abbrev pub with_one_or_two : (Content → Option Content → Content) → List C
 with_one_or_two f (x ∷ []) = with_one (λ a. f a None) (x ∷ [])
 with_one_or_two f args = with_two (λ a b. f a (Some b)) args
 
-abbrev pub with_two_or_three : (Content → Content → Option Content → Content) → List Content → Content
+abbrev pub with_two_or_three :
+    (Content → Content → Option Content → Content) → List Content → Content
 with_two_or_three f (x ∷ y ∷ []) = with_two (λ a b. f a b None) (x ∷ y ∷ [])
 with_two_or_three f args = with_three (λ a b c. f a b (Some c)) args

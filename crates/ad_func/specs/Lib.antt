@@ -1,3 +1,4 @@
+pub mod Values
 pub mod Function
 pub mod Arguments
 pub mod Kinds

@@ -5,8 +5,8 @@ use Rattle.ad_value.specs.declared.order.Order.{Order}
 use Rattle.ad_value.specs.declared.order.Order.TheVariants as order
 use Rattle.ad_value.specs.Content.{Content, error, truth, integer, text, items, list_content}
 use Rattle.ad_value.specs.Order.{order_of}
-use Rattle.ad_func.specs.declared.function.Kind.TheVariants as kind
-use Rattle.ad_func.specs.Kinds.{is_of}
+use Rattle.ad_func.specs.declared.function.ValueKind.TheVariants as kind
+use Rattle.ad_func.specs.Kinds.{is_of_kind}
 
 abbrev pub is_equal : Order → Bool
 is_equal order.Equal = true
@@ -17,7 +17,7 @@ abbrev pub has_equal : Content → List Content → Bool
 has_equal x vs = list_any (λ v. is_equal (order_of x v)) vs
 
 abbrev pub member : Content → Content → Content
-member x (items l) = if is_of kind.Items x then error else truth (has_equal x (list_content l))
+member x (items l) = if is_of_kind kind.Items x then error else truth (has_equal x (list_content l))
 member x v = error
 
 abbrev pub has_char : List ℕ → ℕ → Bool
@@ -26,9 +26,12 @@ has_char cs c = list_any (λ d. d == c) cs
 abbrev pub is_piece : List ℕ → Bool
 is_piece cs = not (length cs == 0)
 
--- the pieces of a text between delimiters, as characters; empty ones are dropped
+-- the pieces of a text's characters between delimiters; empty ones are dropped
+abbrev pub pieces_between : List ℕ → List ℕ → List (List ℕ)
+pieces_between delimiters cs = filter is_piece (slice_split (λ c. has_char delimiters c) cs)
+
 abbrev pub pieces : List ℕ → List ℕ → List (List ℕ)
-pieces delimiters s = filter is_piece (slice_split (λ c. has_char (chars delimiters) c) (chars s))
+pieces delimiters s = pieces_between (chars delimiters) (chars s)
 
 abbrev pub default_delimiters : List ℕ
 default_delimiters = codes " ,"

@@ -9,17 +9,27 @@ use Rattle.ad_value.specs.Order.{number_of}
 abbrev pub is_number : List ℕ → Bool
 is_number ds = nat_lt 0 (length ds) && all_ascii_digits ds
 
--- digits, with a minus before them or not, of a number within 64 bits
-abbrev pub integer_read : List ℕ → Content
-integer_read s =
-    if starts_with_minus s
-    then (if is_number (drop 1 s) && nat_le (digits_value 10 (drop 1 s)) (2 ^ 63) then integer (neg_ℤ (pos (digits_value 10 (drop 1 s)))) else error)
-    else (if is_number s && nat_lt (digits_value 10 s) (2 ^ 63) then integer (pos (digits_value 10 s)) else error)
+-- the digits of a number within 64 bits, with a minus before them or without one
+abbrev pub negative_integer : List ℕ → Content
+negative_integer ds =
+    if is_number ds && nat_le (digits_value 10 ds) (2 ^ 63)
+    then integer (neg_ℤ (pos (digits_value 10 ds)))
+    else error
+
+abbrev pub unsigned_integer : List ℕ → Content
+unsigned_integer ds =
+    if is_number ds && nat_lt (digits_value 10 ds) (2 ^ 63)
+    then integer (pos (digits_value 10 ds))
+    else error
+
+abbrev pub read_integer : List ℕ → Content
+read_integer s =
+    if starts_with_minus s then negative_integer (drop 1 s) else unsigned_integer s
 
 abbrev pub int_of : Content → Content
 int_of (truth b) = integer (number_of b)
 int_of (integer n) = integer n
-int_of (text s) = integer_read s
+int_of (text s) = read_integer s
 int_of v = error
 
 -- the characters of a text, the items of a list

@@ -11,12 +11,12 @@ use Rattle.ad_value.specs.Order.{folded_text}
 use Rattle.ad_func.specs.Arguments.{strict}
 
 -- a list has no text
-abbrev pub string_of : Content → Option (List ℕ)
-string_of (text s) = Some s
-string_of (integer n) = Some (signed_decimal n)
-string_of (truth true) = Some (codes "true")
-string_of (truth false) = Some (codes "false")
-string_of v = None
+abbrev pub plain_text : Content → Option (List ℕ)
+plain_text (text s) = Some s
+plain_text (integer n) = Some (signed_decimal n)
+plain_text (truth true) = Some (codes "true")
+plain_text (truth false) = Some (codes "false")
+plain_text v = None
 
 abbrev pub from_string : (List ℕ → Content) → Option (List ℕ) → Content
 from_string f None = error
@@ -24,22 +24,22 @@ from_string f (Some s) = f s
 
 -- what f makes of the texts of one value, or of two
 abbrev pub of_string : (List ℕ → Content) → Content → Content
-of_string f x = from_string f (string_of x)
+of_string f x = from_string f (plain_text x)
 
 abbrev pub of_strings : (List ℕ → List ℕ → Content) → Content → Content → Content
 of_strings f x y = of_string (λ a. of_string (λ b. f a b) y) x
 
-abbrev pub joined : Option (List ℕ) → Option (List ℕ) → Option (List ℕ)
-joined (Some s) (Some t) = Some (s ++ t)
-joined s t = None
+abbrev pub joined_text : Option (List ℕ) → Option (List ℕ) → Option (List ℕ)
+joined_text (Some s) (Some t) = Some (s ++ t)
+joined_text s t = None
 
 -- the texts of all, one after another
-abbrev pub strings_of : List Content → Option (List ℕ)
-strings_of [] = Some []
-strings_of (x ∷ xs) = joined (string_of x) (strings_of xs)
+abbrev pub text_of_all : List Content → Option (List ℕ)
+text_of_all [] = Some []
+text_of_all (x ∷ xs) = joined_text (plain_text x) (text_of_all xs)
 
 abbrev pub strcat : List Content → Content
-strcat args = strict args (from_string text (strings_of args))
+strcat args = strict args (from_string text (text_of_all args))
 
 abbrev pub upper : List ℕ → Content
 upper s = text (map to_ascii_uppercase s)
@@ -53,13 +53,19 @@ sign ordering.Equal = pos 0
 sign ordering.Greater = pos 1
 
 -- texts are compared by their bytes
-abbrev pub compared : List ℕ → List ℕ → Content
-compared a b = integer (sign (slice_cmp nat_cmp a b))
+abbrev pub comparison_value : List ℕ → List ℕ → Content
+comparison_value a b = integer (sign (slice_cmp nat_cmp a b))
 
-abbrev pub compared_folded : List ℕ → List ℕ → Content
-compared_folded a b = compared (folded_text a) (folded_text b)
+abbrev pub folded_comparison_value : List ℕ → List ℕ → Content
+folded_comparison_value a b = comparison_value (folded_text a) (folded_text b)
 
--- the place at an offset within c characters: from the front, or where it is negative from the end
+abbrev pub strcmp : Content → Content → Content
+strcmp x y = of_strings comparison_value x y
+
+abbrev pub stricmp : Content → Content → Content
+stricmp x y = of_strings folded_comparison_value x y
+
+-- the place at an offset within c characters: from the start, or where it is negative from the end
 abbrev pub start_of : ℕ → ℤ → ℕ
 start_of c (pos o) = min o c
 start_of c (negsuc o) = c - (o + 1)
@@ -69,18 +75,20 @@ abbrev pub end_of : ℕ → ℕ → ℤ → ℕ
 end_of c start (pos n) = min c (start + n)
 end_of c start (negsuc n) = max start (c - (n + 1))
 
+-- the text of the characters from start to end
 abbrev pub characters : ℕ → ℕ → List ℕ → List ℕ
-characters start end cs = take (end - start) (drop start cs)
+characters start end s = encode_utf8_all (take (end - start) (drop start (chars s)))
 
 abbrev pub substring : List ℕ → ℤ → List ℕ
-substring cs o = characters (start_of (length cs) o) (length cs) cs
+substring s o = let count = length (chars s) in characters (start_of count o) count s
 
 abbrev pub substring_of_length : List ℕ → ℤ → ℤ → List ℕ
-substring_of_length cs o n =
-    let start = start_of (length cs) o in
-    characters start (end_of (length cs) start n) cs
+substring_of_length s o n =
+    let count = length (chars s) in
+    let start = start_of count o in
+    characters start (end_of count start n) s
 
 abbrev pub substr : Content → Content → Option Content → Content
-substr (text s) (integer o) None = text (encode_utf8_all (substring (chars s) o))
-substr (text s) (integer o) (Some (integer n)) = text (encode_utf8_all (substring_of_length (chars s) o n))
+substr (text s) (integer o) None = text (substring s o)
+substr (text s) (integer o) (Some (integer n)) = text (substring_of_length s o n)
 substr s o n = error

@@ -1,6 +1,7 @@
-ghost use Rattle.std.specs.Prelude.{◌≡◌, Bool, Option, Some, None, map, MatchOption, MatchResult, option_map};
+ghost use Rattle.std.specs.Prelude.{◌≡◌, Option, MatchResult};
 ghost use Rattle.std.specs.List.{list_any};
 ghost use Rattle.ad_value.specs.Content.{Content, content};
+ghost use Rattle.ad_func.specs.Values.{ComesTo, arguments, optional_argument};
 ghost use Rattle.ad_func.specs.Arguments.{is_error, is_undefined, strict, with_one, with_two, with_three, with_one_or_two, with_two_or_three};
 
 use ad_value::Value;
@@ -31,21 +32,25 @@ fn has_undefined(values: &[Value]) -> bool
 
 /// The arguments again, or the value where an error or else an undefined value among them gives it.
 #[tactic(auto, using(crate::proofs::ArgumentLemmas::any_of))]
-pub fn unless_settled<T: Drop>(values: &[Value], arguments: T) -> Result<T, Value>
-    ensures { (v : Content) → MatchResult result (λ x. (x ≡ arguments) × (strict (map content values.now) v ≡ v)) (λ s. strict (map content values.now) v ≡ content s) }
+pub fn unless_settled<T: Drop>(values: &[Value], given: T) -> Result<T, Value>
+    ensures { (v : Content) → MatchResult result
+        (λ x. (x ≡ given) × (strict (arguments values.now) v ≡ v))
+        (λ s. strict (arguments values.now) v ≡ content s) }
 {
     if has_error(values) {
         Err(Value::Error)
     } else if has_undefined(values) {
         Err(Value::Undefined)
     } else {
-        Ok(arguments)
+        Ok(given)
     }
 }
 
 /// The one argument, or the value where the count, an error or an undefined value already gives it.
 pub fn one(values: &[Value]) -> Result<&Value, Value>
-    ensures { (f : Content → Content) → MatchResult result (λ x. with_one f (map content values.now) ≡ f (content x.now)) (λ v. with_one f (map content values.now) ≡ content v) }
+    ensures { (f : Content → Content) → ComesTo result
+        (with_one f (arguments values.now))
+        (λ x. f (content x.now)) }
 {
     let [x] = values else {
         return Err(Value::Error);
@@ -55,7 +60,9 @@ pub fn one(values: &[Value]) -> Result<&Value, Value>
 
 /// The two arguments, or the value where it is already given.
 pub fn two(values: &[Value]) -> Result<(&Value, &Value), Value>
-    ensures { (f : Content → Content → Content) → MatchResult result (λ p. with_two f (map content values.now) ≡ f (content p.0.now) (content p.1.now)) (λ v. with_two f (map content values.now) ≡ content v) }
+    ensures { (f : Content → Content → Content) → ComesTo result
+        (with_two f (arguments values.now))
+        (λ p. f (content p.0.now) (content p.1.now)) }
 {
     let [x, y] = values else {
         return Err(Value::Error);
@@ -65,7 +72,9 @@ pub fn two(values: &[Value]) -> Result<(&Value, &Value), Value>
 
 /// The three arguments, or the value where it is already given.
 pub fn three(values: &[Value]) -> Result<(&Value, &Value, &Value), Value>
-    ensures { (f : Content → Content → Content → Content) → MatchResult result (λ p. with_three f (map content values.now) ≡ f (content p.0.now) (content p.1.now) (content p.2.now)) (λ v. with_three f (map content values.now) ≡ content v) }
+    ensures { (f : Content → Content → Content → Content) → ComesTo result
+        (with_three f (arguments values.now))
+        (λ p. f (content p.0.now) (content p.1.now) (content p.2.now)) }
 {
     let [x, y, z] = values else {
         return Err(Value::Error);
@@ -75,7 +84,9 @@ pub fn three(values: &[Value]) -> Result<(&Value, &Value, &Value), Value>
 
 /// One argument and perhaps a second, or the value where it is already given.
 pub fn one_or_two(values: &[Value]) -> Result<(&Value, Option<&Value>), Value>
-    ensures { (f : Content → Option Content → Content) → MatchResult result (λ p. with_one_or_two f (map content values.now) ≡ f (content p.0.now) (option_map (λ y. content y.now) p.1)) (λ v. with_one_or_two f (map content values.now) ≡ content v) }
+    ensures { (f : Content → Option Content → Content) → ComesTo result
+        (with_one_or_two f (arguments values.now))
+        (λ p. f (content p.0.now) (optional_argument p.1)) }
 {
     if values.len() == 1 {
         return match one(values) {
@@ -91,7 +102,9 @@ pub fn one_or_two(values: &[Value]) -> Result<(&Value, Option<&Value>), Value>
 
 /// Two arguments and perhaps a third, or the value where it is already given.
 pub fn two_or_three(values: &[Value]) -> Result<(&Value, &Value, Option<&Value>), Value>
-    ensures { (f : Content → Content → Option Content → Content) → MatchResult result (λ p. with_two_or_three f (map content values.now) ≡ f (content p.0.now) (content p.1.now) (option_map (λ z. content z.now) p.2)) (λ v. with_two_or_three f (map content values.now) ≡ content v) }
+    ensures { (f : Content → Content → Option Content → Content) → ComesTo result
+        (with_two_or_three f (arguments values.now))
+        (λ p. f (content p.0.now) (content p.1.now) (optional_argument p.2)) }
 {
     if values.len() == 2 {
         return match two(values) {

@@ -1,10 +1,9 @@
-ghost use Rattle.std.specs.Prelude.{◌≡◌, Some};
-ghost use Rattle.ad_func.specs.declared.function.Function.{Function};
-ghost use Rattle.ad_func.specs.Function.{name_of, function_named};
+ghost use Rattle.std.specs.Prelude.{◌≡◌};
+ghost use Rattle.ad_func.specs.Function.{function_name, function_named};
 
 /// What an `is..` function asks for.
 #[derive(Clone, Copy, Debug, PartialEq, Eq)]
-pub enum Kind {
+pub enum ValueKind {
     Undefined,
     Error,
     Text,
@@ -16,7 +15,7 @@ pub enum Kind {
 /// A function of the ClassAd language.
 #[derive(Clone, Copy, Debug, PartialEq, Eq)]
 pub enum Function {
-    Is(Kind),
+    Is(ValueKind),
     IfThenElse,
     Int,
     String,
@@ -34,12 +33,12 @@ pub enum Function {
 }
 
 const FUNCTIONS: [Function; 20] = [
-    Function::Is(Kind::Undefined),
-    Function::Is(Kind::Error),
-    Function::Is(Kind::Text),
-    Function::Is(Kind::Integer),
-    Function::Is(Kind::Truth),
-    Function::Is(Kind::Items),
+    Function::Is(ValueKind::Undefined),
+    Function::Is(ValueKind::Error),
+    Function::Is(ValueKind::Text),
+    Function::Is(ValueKind::Integer),
+    Function::Is(ValueKind::Truth),
+    Function::Is(ValueKind::Items),
     Function::IfThenElse,
     Function::Int,
     Function::String,
@@ -58,15 +57,15 @@ const FUNCTIONS: [Function; 20] = [
 
 impl Function {
     fn name(self) -> &'static str
-        ensures { result.now ≡ name_of self }
+        ensures { result.now ≡ function_name self }
     {
         match self {
-            Function::Is(Kind::Undefined) => "isUndefined",
-            Function::Is(Kind::Error) => "isError",
-            Function::Is(Kind::Text) => "isString",
-            Function::Is(Kind::Integer) => "isInteger",
-            Function::Is(Kind::Truth) => "isBoolean",
-            Function::Is(Kind::Items) => "isList",
+            Function::Is(ValueKind::Undefined) => "isUndefined",
+            Function::Is(ValueKind::Error) => "isError",
+            Function::Is(ValueKind::Text) => "isString",
+            Function::Is(ValueKind::Integer) => "isInteger",
+            Function::Is(ValueKind::Truth) => "isBoolean",
+            Function::Is(ValueKind::Items) => "isList",
             Function::IfThenElse => "ifThenElse",
             Function::Int => "int",
             Function::String => "string",
@@ -83,19 +82,14 @@ impl Function {
             Function::Time => "time",
         }
     }
-
-    /// The function of that name, without ASCII case.
-    pub fn named(name: &str) -> Option<Function>
-        ensures { result ≡ function_named name.now }
-    {
-        FUNCTIONS
-            .iter()
-            .copied()
-            .find(|function| function.name().eq_ignore_ascii_case(name))
-    }
 }
 
-/// Each function is found by its name.
-pub fn each_is_named()
-    ensures { (f : Function) → function_named (name_of f) ≡ Some f }
-{}
+/// The function of that name, without ASCII case.
+pub fn function_named(name: &str) -> Option<Function>
+    ensures { result ≡ function_named name.now }
+{
+    FUNCTIONS
+        .iter()
+        .copied()
+        .find(|function| function.name().eq_ignore_ascii_case(name))
+}

@@ -1,13 +1,14 @@
-ghost use Rattle.std.specs.Prelude.{◌≡◌, ◌+◌, ◌≤◌, ◌<◌, ◌^◌, Bool, IfOk, map, length, chars, codes, option_map, bytes_eq};
-ghost use Rattle.std.specs.List.{list_any, filter, slice_split};
+ghost use Rattle.std.specs.Prelude.{◌≡◌, ◌+◌, ◌≤◌, ◌<◌, ◌^◌, IfOk, map, length, chars, bytes_eq};
+ghost use Rattle.std.specs.List.{list_any};
 ghost use Rattle.ad_value.specs.Content.{content};
 ghost use Rattle.ad_value.specs.Order.{order_of};
+ghost use Rattle.ad_func.specs.Values.{GivesValue, arguments, optional_argument};
 ghost use Rattle.ad_func.specs.Arguments.{with_two, with_one_or_two, with_two_or_three};
-ghost use Rattle.ad_func.specs.Lists.{is_equal, has_equal, member, has_char, is_piece, pieces, has_piece, string_list_member, string_list_size};
+ghost use Rattle.ad_func.specs.Lists.{is_equal, has_equal, member, pieces_between, pieces, has_piece, string_list_member, string_list_size};
 
 use crate::arguments::{one_or_two, two, two_or_three};
-use crate::function::Kind;
-use crate::kinds::is_of;
+use crate::function::ValueKind;
+use crate::kinds::is_of_kind;
 use crate::numbers::count_of;
 use ad_value::{Memory, Order, Value};
 use std::alloc::{AllocError, Global};
@@ -32,12 +33,12 @@ fn has_equal(alloc: Global, x: &Value, items: &[Value]) -> Result<bool, Memory>
 }
 
 fn member_value(alloc: Global, x: &Value, list: &Value) -> Result<Value, Memory>
-    ensures { IfOk result (λ v. content v ≡ member (content x.now) (content list.now)) }
+    ensures { GivesValue result (member (content x.now) (content list.now)) }
 {
     let Value::List(list) = list else {
         return Ok(Value::Error);
     };
-    if is_of(Kind::Items, x) {
+    if is_of_kind(ValueKind::Items, x) {
         return Ok(Value::Error);
     }
     Ok(Value::Bool(has_equal(alloc, x, &list.items)?))
@@ -45,7 +46,7 @@ fn member_value(alloc: Global, x: &Value, list: &Value) -> Result<Value, Memory>
 
 /// `member(x, list)`: whether an item is equal under `==`.
 pub fn member(alloc: Global, values: &[Value]) -> Result<Value, Memory>
-    ensures { IfOk result (λ v. content v ≡ with_two member (map content values.now)) }
+    ensures { GivesValue result (with_two member (arguments values.now)) }
 {
     match two(values) {
         Ok((x, list)) => member_value(alloc, x, list),
@@ -60,7 +61,7 @@ fn characters_of(alloc: Global, text: &str) -> Result<Vec<char>, AllocError>
 }
 
 fn count_pieces(text: &[char], delimiters: &[char]) -> usize
-    ensures count { result ≡ length (filter is_piece (slice_split (λ c. has_char delimiters.now c) text.now)) }
+    ensures count { result ≡ length (pieces_between delimiters.now text.now) }
     ensures short { result ≤ length text.now + 1 }
 {
     text.split(|c| delimiters.contains(c))
@@ -69,7 +70,8 @@ fn count_pieces(text: &[char], delimiters: &[char]) -> usize
 }
 
 fn any_piece(wanted: &[char], text: &[char], delimiters: &[char]) -> bool
-    ensures { result ≡ list_any (λ p. bytes_eq p wanted.now) (filter is_piece (slice_split (λ c. has_char delimiters.now c) text.now)) }
+    ensures { result
+        ≡ list_any (λ p. bytes_eq p wanted.now) (pieces_between delimiters.now text.now) }
 {
     text.split(|c| delimiters.contains(c))
         .filter(|piece| !piece.is_empty())
@@ -78,7 +80,7 @@ fn any_piece(wanted: &[char], text: &[char], delimiters: &[char]) -> bool
 
 /// `stringListMember(s, list)` and `stringListMember(s, list, delimiters)`
 pub fn string_list_member(alloc: Global, values: &[Value]) -> Result<Value, Memory>
-    ensures { IfOk result (λ v. content v ≡ with_two_or_three string_list_member (map content values.now)) }
+    ensures { GivesValue result (with_two_or_three string_list_member (arguments values.now)) }
 {
     match two_or_three(values) {
         Ok((s, list, delimiters)) => member_of_pieces(alloc, s, list, delimiters),
@@ -92,7 +94,10 @@ fn member_of_pieces(
     list: &Value,
     delimiters: Option<&Value>,
 ) -> Result<Value, Memory>
-    ensures { IfOk result (λ v. content v ≡ string_list_member (content s.now) (content list.now) (option_map (λ d. content d.now) delimiters.entry)) }
+    ensures { GivesValue result (string_list_member
+        (content s.now)
+        (content list.now)
+        (optional_argument delimiters.entry)) }
 {
     match (s, list, delimiters) {
         (Value::Str(s), Value::Str(list), None) => Ok(Value::Bool(has_piece(
@@ -122,7 +127,7 @@ fn has_piece(alloc: Global, s: &str, delimiters: &str, list: &str) -> Result<boo
 
 /// `stringListSize(list)` and `stringListSize(list, delimiters)`
 pub fn string_list_size(alloc: Global, values: &[Value]) -> Result<Value, Memory>
-    ensures { IfOk result (λ v. content v ≡ with_one_or_two string_list_size (map content values.now)) }
+    ensures { GivesValue result (with_one_or_two string_list_size (arguments values.now)) }
 {
     match one_or_two(values) {
         Ok((list, delimiters)) => size_of_pieces(alloc, list, delimiters),
@@ -131,7 +136,8 @@ pub fn string_list_size(alloc: Global, values: &[Value]) -> Result<Value, Memory
 }
 
 fn size_of_pieces(alloc: Global, list: &Value, delimiters: Option<&Value>) -> Result<Value, Memory>
-    ensures { IfOk result (λ v. content v ≡ string_list_size (content list.now) (option_map (λ d. content d.now) delimiters.entry)) }
+    ensures { GivesValue result
+        (string_list_size (content list.now) (optional_argument delimiters.entry)) }
 {
     match (list, delimiters) {
         (Value::Str(list), None) => Ok(count_of(piece_count(

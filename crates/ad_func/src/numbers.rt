@@ -1,7 +1,8 @@
-ghost use Rattle.std.specs.Prelude.{◌≡◌, ◌<◌, ◌^◌, ◌==◌, map, pos, length, chars, slice_index};
+ghost use Rattle.std.specs.Prelude.{◌≡◌, ◌<◌, ◌^◌, ◌==◌, pos, length, chars, slice_index};
 ghost use Rattle.ad_value.specs.Content.{content, integer};
+ghost use Rattle.ad_func.specs.Values.{arguments};
 ghost use Rattle.ad_func.specs.Arguments.{with_none, with_one};
-ghost use Rattle.ad_func.specs.Numbers.{integer_read, int_of, size_of, time_of};
+ghost use Rattle.ad_func.specs.Numbers.{read_integer, int_of, size_of, time_of};
 
 use crate::arguments::one;
 use ad_value::Value;
@@ -13,7 +14,7 @@ fn has_plus(text: &str) -> bool
 }
 
 fn read_integer(text: &str) -> Value
-    ensures { content result ≡ integer_read text.now }
+    ensures { content result ≡ read_integer text.now }
 {
     // std takes a plus too
     if has_plus(text) {
@@ -38,7 +39,7 @@ fn int_of(value: &Value) -> Value
 
 /// `int(x)`: of a text that is an optional minus and digits, within 64 bits.
 pub fn int(values: &[Value]) -> Value
-    ensures { content result ≡ with_one int_of (map content values.now) }
+    ensures { content result ≡ with_one int_of (arguments values.now) }
 {
     match one(values) {
         Ok(x) => int_of(x),
@@ -46,7 +47,7 @@ pub fn int(values: &[Value]) -> Value
     }
 }
 
-// Texts and lists are shorter than the greatest integer.
+/// A count as a value: texts and lists are shorter than the greatest integer.
 pub fn count_of(count: usize) -> Value
     requires { count < 2 ^ 63 }
     ensures { content result ≡ integer (pos count) }
@@ -54,6 +55,7 @@ pub fn count_of(count: usize) -> Value
     Value::Int(count as i64)
 }
 
+/// How many characters a text has. Computes in O(bytes).
 pub fn characters_in(text: &str) -> usize
     ensures count { result ≡ length (chars text.now) }
     ensures short { result < 2 ^ 63 }
@@ -73,7 +75,7 @@ fn size_of(value: &Value) -> Value
 
 /// `size(x)`: the characters of a text, the items of a list.
 pub fn size(values: &[Value]) -> Value
-    ensures { content result ≡ with_one size_of (map content values.now) }
+    ensures { content result ≡ with_one size_of (arguments values.now) }
 {
     match one(values) {
         Ok(x) => size_of(x),
@@ -81,9 +83,10 @@ pub fn size(values: &[Value]) -> Value
     }
 }
 
-/// `time()`: the reading in seconds; one past the integers is an error.
+/// `time()`: the reading, in seconds since 1970-01-01 00:00:00 UTC. One past the integers is an
+/// error.
 pub fn time(values: &[Value], now: u64) -> Value
-    ensures { content result ≡ with_none (time_of now) (map content values.now) }
+    ensures { content result ≡ with_none (time_of now) (arguments values.now) }
 {
     if !values.is_empty() {
         return Value::Error;

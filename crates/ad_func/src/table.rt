@@ -1,25 +1,32 @@
-ghost use Rattle.std.specs.Prelude.{◌≡◌, IfOk, map};
-ghost use Rattle.ad_value.specs.Content.{content};
-ghost use Rattle.ad_func.specs.Called.{called, value_of};
+ghost use Rattle.ad_func.specs.Values.{GivesValue, arguments};
+ghost use Rattle.ad_func.specs.Called.{call_value, function_value};
 
-use crate::function::Function;
+use crate::function::{Function, function_named};
 use crate::{kinds, lists, numbers, texts};
 use ad_value::{Memory, Value};
 use std::alloc::Global;
 
-/// The value of a call (HTCondor manual, "ClassAd predefined functions"). Names are without ASCII case; an unknown
-/// name or a wrong count of arguments is an error. `now` is the reading of the clock in seconds that `time()` gives.
+/// The value of a call (HTCondor manual, "ClassAd predefined functions"). Names are without ASCII
+/// case; an unknown name or a wrong count of arguments is an error. `now` is the reading of the
+/// clock, in seconds since 1970-01-01 00:00:00 UTC, that `time()` gives. Computes in O(size of the
+/// arguments); `member` in O(size of the list + items × bytes of the wanted string), and the
+/// functions of string lists in O(bytes of the list × delimiters).
 pub fn call(alloc: Global, name: &str, values: &[Value], now: u64) -> Result<Value, Memory>
-    ensures { IfOk result (λ v. content v ≡ called name.now (map content values.now) now) }
+    ensures { GivesValue result (call_value name.now (arguments values.now) now) }
 {
-    match Function::named(name) {
-        Some(function) => value_of(alloc, function, values, now),
+    match function_named(name) {
+        Some(function) => function_value(alloc, function, values, now),
         None => Ok(Value::Error),
     }
 }
 
-fn value_of(alloc: Global, function: Function, values: &[Value], now: u64) -> Result<Value, Memory>
-    ensures { IfOk result (λ v. content v ≡ value_of function (map content values.now) now) }
+fn function_value(
+    alloc: Global,
+    function: Function,
+    values: &[Value],
+    now: u64,
+) -> Result<Value, Memory>
+    ensures { GivesValue result (function_value function (arguments values.now) now) }
 {
     match function {
         Function::Is(kind) => Ok(kinds::kind_test(kind, values)),

@@ -1,7 +1,8 @@
-ghost use Rattle.std.specs.Prelude.{◌≡◌, ◌+◌, ◌++◌, ℤ, Some, IfOk, OnOk, map, length, chars, encode_utf8_all, string_bytes, option_map};
+ghost use Rattle.std.specs.Prelude.{◌≡◌, Some, IfOk, string_bytes};
 ghost use Rattle.ad_value.specs.Content.{content, text as text_value};
+ghost use Rattle.ad_func.specs.Values.{GivesValue, arguments, optional_argument, optional_bytes};
 ghost use Rattle.ad_func.specs.Arguments.{with_one, with_two, with_two_or_three};
-ghost use Rattle.ad_func.specs.Texts.{string_of, strings_of, from_string, of_string, strcat, of_strings, upper, lower, compared, compared_folded, substr, start_of, end_of, characters, substring, substring_of_length};
+ghost use Rattle.ad_func.specs.Texts.{plain_text, text_of_all, from_string, of_string, strcat, upper, lower, comparison_value, folded_comparison_value, strcmp, stricmp, substr, start_of, end_of, characters, substring, substring_of_length};
 
 use crate::arguments::{one, two, two_or_three, unless_settled};
 use crate::numbers::characters_in;
@@ -11,14 +12,14 @@ use std::alloc::{AllocError, Global};
 use std::cmp::Ordering;
 
 fn some_string(alloc: Global, text: &str) -> Result<Option<String>, Memory>
-    ensures { IfOk result (λ s. option_map (λ t. string_bytes t) s ≡ Some text.now) }
+    ensures { IfOk result (λ s. optional_bytes s ≡ Some text.now) }
 {
     Ok(Some(String::from_str(alloc, text)?))
 }
 
 /// The text of a text, an integer or a truth value.
-fn string_of(alloc: Global, value: &Value) -> Result<Option<String>, Memory>
-    ensures { IfOk result (λ s. option_map (λ t. string_bytes t) s ≡ string_of (content value.now)) }
+fn plain_text(alloc: Global, value: &Value) -> Result<Option<String>, Memory>
+    ensures { IfOk result (λ s. optional_bytes s ≡ plain_text (content value.now)) }
 {
     match value {
         Value::Str(text) => some_string(alloc, text.as_str()),
@@ -33,9 +34,9 @@ fn string_of(alloc: Global, value: &Value) -> Result<Option<String>, Memory>
 }
 
 fn string_value(alloc: Global, x: &Value) -> Result<Value, Memory>
-    ensures { IfOk result (λ v. content v ≡ of_string text_value (content x.now)) }
+    ensures { GivesValue result (of_string text_value (content x.now)) }
 {
-    match string_of(alloc, x)? {
+    match plain_text(alloc, x)? {
         Some(text) => Ok(Value::Str(Text::from(text))),
         None => Ok(Value::Error),
     }
@@ -43,7 +44,7 @@ fn string_value(alloc: Global, x: &Value) -> Result<Value, Memory>
 
 /// `string(x)`
 pub fn string(alloc: Global, values: &[Value]) -> Result<Value, Memory>
-    ensures { IfOk result (λ v. content v ≡ with_one (of_string text_value) (map content values.now)) }
+    ensures { GivesValue result (with_one (of_string text_value) (arguments values.now)) }
 {
     match one(values) {
         Ok(x) => string_value(alloc, x),
@@ -52,9 +53,9 @@ pub fn string(alloc: Global, values: &[Value]) -> Result<Value, Memory>
 }
 
 fn upper_value(alloc: Global, x: &Value) -> Result<Value, Memory>
-    ensures { IfOk result (λ v. content v ≡ of_string upper (content x.now)) }
+    ensures { GivesValue result (of_string upper (content x.now)) }
 {
-    match string_of(alloc, x)? {
+    match plain_text(alloc, x)? {
         Some(mut text) => {
             text.make_ascii_uppercase();
             Ok(Value::Str(Text::from(text)))
@@ -65,7 +66,7 @@ fn upper_value(alloc: Global, x: &Value) -> Result<Value, Memory>
 
 /// `toUpper(x)`: the text with its ASCII letters in upper case.
 pub fn to_upper(alloc: Global, values: &[Value]) -> Result<Value, Memory>
-    ensures { IfOk result (λ v. content v ≡ with_one (of_string upper) (map content values.now)) }
+    ensures { GivesValue result (with_one (of_string upper) (arguments values.now)) }
 {
     match one(values) {
         Ok(x) => upper_value(alloc, x),
@@ -74,9 +75,9 @@ pub fn to_upper(alloc: Global, values: &[Value]) -> Result<Value, Memory>
 }
 
 fn lower_value(alloc: Global, x: &Value) -> Result<Value, Memory>
-    ensures { IfOk result (λ v. content v ≡ of_string lower (content x.now)) }
+    ensures { GivesValue result (of_string lower (content x.now)) }
 {
-    match string_of(alloc, x)? {
+    match plain_text(alloc, x)? {
         Some(mut text) => {
             text.make_ascii_lowercase();
             Ok(Value::Str(Text::from(text)))
@@ -87,7 +88,7 @@ fn lower_value(alloc: Global, x: &Value) -> Result<Value, Memory>
 
 /// `toLower(x)`
 pub fn to_lower(alloc: Global, values: &[Value]) -> Result<Value, Memory>
-    ensures { IfOk result (λ v. content v ≡ with_one (of_string lower) (map content values.now)) }
+    ensures { GivesValue result (with_one (of_string lower) (arguments values.now)) }
 {
     match one(values) {
         Ok(x) => lower_value(alloc, x),
@@ -96,7 +97,7 @@ pub fn to_lower(alloc: Global, values: &[Value]) -> Result<Value, Memory>
 }
 
 fn compare(a: &str, b: &str) -> Value
-    ensures { content result ≡ compared a.now b.now }
+    ensures { content result ≡ comparison_value a.now b.now }
 {
     match a.cmp(b) {
         Ordering::Less => Value::Int(-1),
@@ -106,7 +107,7 @@ fn compare(a: &str, b: &str) -> Value
 }
 
 fn compare_folded(alloc: Global, a: &str, b: &str) -> Result<Value, Memory>
-    ensures { IfOk result (λ v. content v ≡ compared_folded a.now b.now) }
+    ensures { GivesValue result (folded_comparison_value a.now b.now) }
 {
     let a = caseless::default_case_fold_str(alloc, a)?;
     let b = caseless::default_case_fold_str(alloc, b)?;
@@ -114,24 +115,24 @@ fn compare_folded(alloc: Global, a: &str, b: &str) -> Result<Value, Memory>
 }
 
 fn compare_values(alloc: Global, x: &Value, y: &Value) -> Result<Value, Memory>
-    ensures { IfOk result (λ v. content v ≡ of_strings compared (content x.now) (content y.now)) }
+    ensures { GivesValue result (strcmp (content x.now) (content y.now)) }
 {
-    let Some(a) = string_of(alloc, x)? else {
+    let Some(a) = plain_text(alloc, x)? else {
         return Ok(Value::Error);
     };
-    let Some(b) = string_of(alloc, y)? else {
+    let Some(b) = plain_text(alloc, y)? else {
         return Ok(Value::Error);
     };
     Ok(compare(a.as_str(), b.as_str()))
 }
 
 fn compare_values_folded(alloc: Global, x: &Value, y: &Value) -> Result<Value, Memory>
-    ensures { IfOk result (λ v. content v ≡ of_strings compared_folded (content x.now) (content y.now)) }
+    ensures { GivesValue result (stricmp (content x.now) (content y.now)) }
 {
-    let Some(a) = string_of(alloc, x)? else {
+    let Some(a) = plain_text(alloc, x)? else {
         return Ok(Value::Error);
     };
-    let Some(b) = string_of(alloc, y)? else {
+    let Some(b) = plain_text(alloc, y)? else {
         return Ok(Value::Error);
     };
     compare_folded(alloc, a.as_str(), b.as_str())
@@ -139,7 +140,7 @@ fn compare_values_folded(alloc: Global, x: &Value, y: &Value) -> Result<Value, M
 
 /// `strcmp(a, b)`: -1, 0 or 1 by the bytes of the texts.
 pub fn strcmp(alloc: Global, values: &[Value]) -> Result<Value, Memory>
-    ensures { IfOk result (λ v. content v ≡ with_two (of_strings compared) (map content values.now)) }
+    ensures { GivesValue result (with_two strcmp (arguments values.now)) }
 {
     match two(values) {
         Ok((x, y)) => compare_values(alloc, x, y),
@@ -149,7 +150,7 @@ pub fn strcmp(alloc: Global, values: &[Value]) -> Result<Value, Memory>
 
 /// `stricmp(a, b)`: the same of the folded texts.
 pub fn stricmp(alloc: Global, values: &[Value]) -> Result<Value, Memory>
-    ensures { IfOk result (λ v. content v ≡ with_two (of_strings compared_folded) (map content values.now)) }
+    ensures { GivesValue result (with_two stricmp (arguments values.now)) }
 {
     match two(values) {
         Ok((x, y)) => compare_values_folded(alloc, x, y),
@@ -180,14 +181,14 @@ fn end_of(count: usize, start: usize, length: i64) -> usize
 }
 
 fn characters(alloc: Global, text: &str, start: usize, end: usize) -> Result<String, AllocError>
-    ensures { IfOk result (λ t. string_bytes t ≡ encode_utf8_all (characters start end (chars text.now))) }
+    ensures { IfOk result (λ t. string_bytes t ≡ characters start end text.now) }
 {
     let length = end.saturating_sub(start);
     text.chars().skip(start).take(length).collect(alloc)
 }
 
 fn substring(alloc: Global, text: &str, offset: i64) -> Result<Value, Memory>
-    ensures { IfOk result (λ v. content v ≡ text_value (encode_utf8_all (substring (chars text.now) offset))) }
+    ensures { GivesValue result (text_value (substring text.now offset)) }
 {
     let count = characters_in(text);
     let part = characters(alloc, text, start_of(count, offset), count)?;
@@ -195,7 +196,7 @@ fn substring(alloc: Global, text: &str, offset: i64) -> Result<Value, Memory>
 }
 
 fn substring_of_length(alloc: Global, text: &str, offset: i64, length: i64) -> Result<Value, Memory>
-    ensures { IfOk result (λ v. content v ≡ text_value (encode_utf8_all (substring_of_length (chars text.now) offset length))) }
+    ensures { GivesValue result (text_value (substring_of_length text.now offset length)) }
 {
     let count = characters_in(text);
     let start = start_of(count, offset);
@@ -209,7 +210,8 @@ fn substring_value(
     offset: &Value,
     length: Option<&Value>,
 ) -> Result<Value, Memory>
-    ensures { IfOk result (λ v. content v ≡ substr (content s.now) (content offset.now) (option_map (λ n. content n.now) length.entry)) }
+    ensures { GivesValue result
+        (substr (content s.now) (content offset.now) (optional_argument length.entry)) }
 {
     match (s, offset, length) {
         (Value::Str(text), Value::Int(offset), None) => substring(alloc, text.as_str(), *offset),
@@ -220,10 +222,10 @@ fn substring_value(
     }
 }
 
-/// `substr(s, offset)` and `substr(s, offset, length)`, in characters; a negative offset counts from the end,
-/// and a negative length leaves characters out at the end.
+/// `substr(s, offset)` and `substr(s, offset, length)`, in characters: a negative offset counts
+/// from the end, and a negative length leaves characters out at the end.
 pub fn substr(alloc: Global, values: &[Value]) -> Result<Value, Memory>
-    ensures { IfOk result (λ v. content v ≡ with_two_or_three substr (map content values.now)) }
+    ensures { GivesValue result (with_two_or_three substr (arguments values.now)) }
 {
     match two_or_three(values) {
         Ok((s, offset, length)) => substring_value(alloc, s, offset, length),
@@ -231,12 +233,12 @@ pub fn substr(alloc: Global, values: &[Value]) -> Result<Value, Memory>
     }
 }
 
-fn joined(alloc: Global, values: &[Value]) -> Result<Option<String>, Memory>
-    ensures { IfOk result (λ s. option_map (λ t. string_bytes t) s ≡ strings_of (map content values.now)) }
+fn text_of_all(alloc: Global, values: &[Value]) -> Result<Option<String>, Memory>
+    ensures { IfOk result (λ s. optional_bytes s ≡ text_of_all (arguments values.now)) }
 {
     let mut text = String::new(alloc);
     for value in values {
-        match string_of(alloc, value)? {
+        match plain_text(alloc, value)? {
             Some(more) => text.push_str(more.as_str())?,
             None => return Ok(None),
         }
@@ -245,9 +247,9 @@ fn joined(alloc: Global, values: &[Value]) -> Result<Option<String>, Memory>
 }
 
 fn joined_value(alloc: Global, values: &[Value]) -> Result<Value, Memory>
-    ensures { IfOk result (λ v. content v ≡ from_string text_value (strings_of (map content values.now))) }
+    ensures { GivesValue result (from_string text_value (text_of_all (arguments values.now))) }
 {
-    match joined(alloc, values)? {
+    match text_of_all(alloc, values)? {
         Some(text) => Ok(Value::Str(Text::from(text))),
         None => Ok(Value::Error),
     }
@@ -255,7 +257,7 @@ fn joined_value(alloc: Global, values: &[Value]) -> Result<Value, Memory>
 
 /// `strcat(x, y, ..)` of any number of values.
 pub fn strcat(alloc: Global, values: &[Value]) -> Result<Value, Memory>
-    ensures { IfOk result (λ v. content v ≡ strcat (map content values.now)) }
+    ensures { GivesValue result (strcat (arguments values.now)) }
 {
     match unless_settled(values, ()) {
         Ok(()) => joined_value(alloc, values),
