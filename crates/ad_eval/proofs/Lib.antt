@@ -1,6 +1,7 @@
 mod NumberLemmas
 mod SameLemmas
 mod FindLemmas
-mod LookLemmas
+mod Looks
+mod EvalLemmas
 mod PlaceLemmas
 pub mod MatchLemmas

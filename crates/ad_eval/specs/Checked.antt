@@ -2,6 +2,6 @@
 use Rattle.std.specs.Prelude.{ℤ, Option, Some, None}
 use Rattle.ad_value.specs.Content.{Content, error, integer}
 
-abbrev pub checked : Option ℤ → Content
-checked None = error
-checked (Some n) = integer n
+abbrev pub checked_value : Option ℤ → Content
+checked_value None = error
+checked_value (Some n) = integer n

@@ -1,8 +1,10 @@
 pub mod Operators
 pub mod Checked
 pub mod Mean
-pub mod Sides
 pub mod Size
+pub mod Sides
+pub mod Evaluation
 pub mod Match
 pub mod Judgement
 pub mod JudgementCode
+pub mod FirstMatch

@@ -1,11 +1,12 @@
--- When a job and a slot match (Raman, Livny and Solomon, "Matchmaking", 1998): the Requirements of each hold with the other as
--- target.
-use Rattle.std.specs.Prelude.{◌≡◌, ℕ, ℤ, pos, Bool, true, false, not, ◌&&◌, List, codes, slice_get, take, Some}
+-- When a job and a slot match (Raman, Livny and Solomon, "Matchmaking", 1998): the Requirements of
+-- each hold with the other as target.
+use Rattle.std.specs.Prelude.{ℕ, ℤ, pos, Bool, false, not, ◌&&◌, List}
 use Rattle.std.specs.Ordering.{int_eq}
 use Rattle.std.specs.List.{list_any}
 use Rattle.ad_value.specs.Content.{Content, truth, integer}
 use Rattle.ad_value.specs.Order.{number_of}
 use Rattle.ad_tree.specs.Ad.{Attributes}
+use Rattle.ad_eval.specs.declared.names.TheConstants.{REQUIREMENTS, RANK}
 use Rattle.ad_eval.specs.Mean.{attribute_value}
 
 -- TRUE, or an integer that is not 0
@@ -15,7 +16,7 @@ holds_as (integer n) = not (int_eq n (pos 0))
 holds_as v = false
 
 abbrev pub requirements_hold : Attributes → Attributes → ℕ → Bool
-requirements_hold my target now = holds_as (attribute_value my target now (codes "Requirements"))
+requirements_hold my target now = holds_as (attribute_value my target now REQUIREMENTS.now)
 
 abbrev pub matches : Attributes → Attributes → ℕ → Bool
 matches job slot now = requirements_hold job slot now && requirements_hold slot job now
@@ -27,7 +28,7 @@ rank_as (integer n) = n
 rank_as v = pos 0
 
 abbrev pub rank_of : Attributes → Attributes → ℕ → ℤ
-rank_of my target now = rank_as (attribute_value my target now (codes "Rank"))
+rank_of my target now = rank_as (attribute_value my target now RANK.now)
 
 -- some job matches some slot
 abbrev pub matches_any : List Attributes → Attributes → ℕ → Bool
@@ -35,17 +36,3 @@ matches_any slots job now = list_any (λ slot. matches job slot now) slots
 
 abbrev pub any_match : List Attributes → List Attributes → ℕ → Bool
 any_match jobs slots now = list_any (λ job. matches_any slots job now) jobs
-
--- the least place of a slot that a job matches
-pub record IsFirstSlot (slots : List Attributes) (job : Attributes) (now k : ℕ) : Type 0 where
-  pub slot : Attributes
-  pub there : slice_get slots k ≡ Some slot
-  pub match : matches job slot now ≡ true
-  pub none_before : matches_any (take k slots) job now ≡ false
-
--- the least places of a job and a slot that match, by job, then by slot
-pub record IsFirstMatch (jobs slots : List Attributes) (now i k : ℕ) : Type 0 where
-  pub job : Attributes
-  pub there : slice_get jobs i ≡ Some job
-  pub none_before : any_match (take i jobs) slots now ≡ false
-  pub slot : IsFirstSlot slots job now k

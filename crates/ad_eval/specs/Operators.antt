@@ -1,5 +1,5 @@
--- What operators make of values (HTCondor manual, "ClassAd evaluation semantics"). That a string or a list beside an undefined
--- value gives an error is this project's own choice.
+-- What operators make of values (HTCondor manual, "ClassAd evaluation semantics"). That a string or
+-- a list beside an undefined value gives an error is this project's own choice.
 use Rattle.std.specs.Prelude.{◌^◌, ℤ, pos, negsuc, ◌+ℤ◌, ◌-ℤ◌, ◌*ℤ◌, neg_ℤ, int_div, int_rem, Bool, true, false, not, ◌&&◌, nat_lt, if◌then◌else◌}
 use Rattle.std.specs.Ordering.{int_eq}
 use Rattle.std.specs.Str.{bytes_eq}
@@ -18,28 +18,28 @@ use Rattle.ad_eval.specs.declared.logic.Truth.TheVariants as is
 -- ---- numbers: integers, and truth values counted as 1 or 0
 
 -- within 64 bits, from -2 ^ 63 to 2 ^ 63 - 1; negsuc n is -(n + 1)
-abbrev pub is_within : ℤ → Bool
-is_within (pos n) = nat_lt n (2 ^ 63)
-is_within (negsuc n) = nat_lt n (2 ^ 63)
+abbrev pub is_in_range : ℤ → Bool
+is_in_range (pos n) = nat_lt n (2 ^ 63)
+is_in_range (negsuc n) = nat_lt n (2 ^ 63)
 
-abbrev pub within : ℤ → Content
-within n = if is_within n then integer n else error
+abbrev pub integer_or_error : ℤ → Content
+integer_or_error n = if is_in_range n then integer n else error
 
 -- rounded toward zero
 abbrev pub quotient : ℤ → ℤ → Content
-quotient a b = if int_eq b (pos 0) then error else within (int_div a b)
+quotient a b = if int_eq b (pos 0) then error else integer_or_error (int_div a b)
 
 -- with the sign of the left operand
 abbrev pub remainder : ℤ → ℤ → Content
 remainder a b = if int_eq b (pos 0) then error else integer (int_rem a b)
 
-abbrev pub calculated : BinOp → ℤ → ℤ → Content
-calculated bin.Add a b = within (a +ℤ b)
-calculated bin.Subtract a b = within (a -ℤ b)
-calculated bin.Multiply a b = within (a *ℤ b)
-calculated bin.Divide a b = quotient a b
-calculated bin.Modulo a b = remainder a b
-calculated op a b = error
+abbrev pub arithmetic_value : BinOp → ℤ → ℤ → Content
+arithmetic_value bin.Add a b = integer_or_error (a +ℤ b)
+arithmetic_value bin.Subtract a b = integer_or_error (a -ℤ b)
+arithmetic_value bin.Multiply a b = integer_or_error (a *ℤ b)
+arithmetic_value bin.Divide a b = quotient a b
+arithmetic_value bin.Modulo a b = remainder a b
+arithmetic_value op a b = error
 
 -- an error, a string or a list first, then an undefined value, then the numbers
 abbrev pub of_numbers : (ℤ → ℤ → Content) → Content → Content → Content
@@ -76,10 +76,10 @@ stands bin.GreaterEqual order.Greater = true
 stands bin.Greater order.Greater = true
 stands op o = false
 
-abbrev pub compared : BinOp → Order → Content
-compared op order.Error = error
-compared op order.Undefined = undefined
-compared op o = truth (stands op o)
+abbrev pub comparison_result : BinOp → Order → Content
+comparison_result op order.Error = error
+comparison_result op order.Undefined = undefined
+comparison_result op o = truth (stands op o)
 
 -- the same kind and content
 abbrev mutual
@@ -124,18 +124,18 @@ either is.Undefined b = undefined
 either a is.Undefined = undefined
 either is.False is.False = truth false
 
-abbrev pub negated : Truth → Content
-negated is.True = truth false
-negated is.False = truth true
-negated is.Undefined = undefined
-negated is.Error = error
+abbrev pub negated_value : Truth → Content
+negated_value is.True = truth false
+negated_value is.False = truth true
+negated_value is.Undefined = undefined
+negated_value is.Error = error
 
 -- the test of t ? y : n, and the two values
-abbrev pub chosen : Truth → Content → Content → Content
-chosen is.True y n = y
-chosen is.False y n = n
-chosen is.Undefined y n = undefined
-chosen is.Error y n = error
+abbrev pub chosen_value : Truth → Content → Content → Content
+chosen_value is.True y n = y
+chosen_value is.False y n = n
+chosen_value is.Undefined y n = undefined
+chosen_value is.Error y n = error
 
 -- first ?: other
 abbrev pub first_defined : Content → Content → Content
@@ -144,24 +144,24 @@ first_defined first other = first
 
 -- ---- all operators
 
-abbrev pub applied : BinOp → Content → Content → Content
-applied bin.Or a b = either (truth_of a) (truth_of b)
-applied bin.And a b = both (truth_of a) (truth_of b)
-applied bin.Same a b = truth (same a b)
-applied bin.NotSame a b = truth (not (same a b))
-applied bin.Equal a b = compared bin.Equal (order_of a b)
-applied bin.NotEqual a b = compared bin.NotEqual (order_of a b)
-applied bin.Less a b = compared bin.Less (order_of a b)
-applied bin.LessEqual a b = compared bin.LessEqual (order_of a b)
-applied bin.GreaterEqual a b = compared bin.GreaterEqual (order_of a b)
-applied bin.Greater a b = compared bin.Greater (order_of a b)
-applied bin.Add a b = of_numbers (calculated bin.Add) a b
-applied bin.Subtract a b = of_numbers (calculated bin.Subtract) a b
-applied bin.Multiply a b = of_numbers (calculated bin.Multiply) a b
-applied bin.Divide a b = of_numbers (calculated bin.Divide) a b
-applied bin.Modulo a b = of_numbers (calculated bin.Modulo) a b
+abbrev pub binary_value : BinOp → Content → Content → Content
+binary_value bin.Or a b = either (truth_of a) (truth_of b)
+binary_value bin.And a b = both (truth_of a) (truth_of b)
+binary_value bin.Same a b = truth (same a b)
+binary_value bin.NotSame a b = truth (not (same a b))
+binary_value bin.Equal a b = comparison_result bin.Equal (order_of a b)
+binary_value bin.NotEqual a b = comparison_result bin.NotEqual (order_of a b)
+binary_value bin.Less a b = comparison_result bin.Less (order_of a b)
+binary_value bin.LessEqual a b = comparison_result bin.LessEqual (order_of a b)
+binary_value bin.GreaterEqual a b = comparison_result bin.GreaterEqual (order_of a b)
+binary_value bin.Greater a b = comparison_result bin.Greater (order_of a b)
+binary_value bin.Add a b = of_numbers (arithmetic_value bin.Add) a b
+binary_value bin.Subtract a b = of_numbers (arithmetic_value bin.Subtract) a b
+binary_value bin.Multiply a b = of_numbers (arithmetic_value bin.Multiply) a b
+binary_value bin.Divide a b = of_numbers (arithmetic_value bin.Divide) a b
+binary_value bin.Modulo a b = of_numbers (arithmetic_value bin.Modulo) a b
 
-abbrev pub prefixed : UnOp → Content → Content
-prefixed Minus v = of_number (λ n. within (neg_ℤ n)) v
-prefixed Plus v = of_number integer v
-prefixed Not v = negated (truth_of v)
+abbrev pub unary_value : UnOp → Content → Content
+unary_value Minus v = of_number (λ n. integer_or_error (neg_ℤ n)) v
+unary_value Plus v = of_number integer v
+unary_value Not v = negated_value (truth_of v)

@@ -5,28 +5,28 @@ use Rattle.ad_tree.specs.Ad.{Attributes}
 use Rattle.ad_eval.specs.Mean.{Ads}
 
 abbrev mutual
-  pub size : Tree → ℕ
-  size (literal c) = 1
-  size (reference s x) = 1
-  size (unary op e) = 1 + size e
-  size (chain e rs) = 1 + size e + size_rests rs
-  size (choice t y n) = 1 + size t + size y + size n
-  size (or_else e f) = 1 + size e + size f
-  size (call x es) = 1 + size_trees es
-  size (items es) = 1 + size_trees es
+  pub tree_size : Tree → ℕ
+  tree_size (literal c) = 1
+  tree_size (reference s x) = 1
+  tree_size (unary op e) = 1 + tree_size e
+  tree_size (chain e rs) = 1 + tree_size e + rests_size rs
+  tree_size (choice t y n) = 1 + tree_size t + tree_size y + tree_size n
+  tree_size (or_else e f) = 1 + tree_size e + tree_size f
+  tree_size (call x es) = 1 + trees_size es
+  tree_size (items es) = 1 + trees_size es
 
-  pub size_trees : Trees → ℕ
-  size_trees no_trees = 0
-  size_trees (and_tree e es) = 1 + size e + size_trees es
+  pub trees_size : Trees → ℕ
+  trees_size no_trees = 0
+  trees_size (and_tree e es) = 1 + tree_size e + trees_size es
 
-  pub size_rests : Rests → ℕ
-  size_rests no_rests = 0
-  size_rests (and_rest op e rs) = 2 + size e + size_rests rs
+  pub rests_size : Rests → ℕ
+  rests_size no_rests = 0
+  rests_size (and_rest op e rs) = 2 + tree_size e + rests_size rs
 
 -- the size of an ad's largest expression
-abbrev pub largest : Attributes → ℕ
-largest [] = 0
-largest (a ∷ ad) = max (size a.1) (largest ad)
+abbrev pub largest_tree : Attributes → ℕ
+largest_tree [] = 0
+largest_tree (a ∷ ad) = max (tree_size a.1) (largest_tree ad)
 
-abbrev pub largest_of : Ads → ℕ
-largest_of ads = max (largest ads.my) (largest ads.target)
+abbrev pub largest_tree_of : Ads → ℕ
+largest_tree_of ads = max (largest_tree ads.my) (largest_tree ads.target)

@@ -1,13 +1,14 @@
-ghost use Rattle.std.specs.Prelude.{◌≡◌, ◌+ℤ◌, ◌-ℤ◌, ◌*ℤ◌, neg_ℤ, ℤ, MatchResult};
+ghost use Rattle.std.specs.Prelude.{◌≡◌, ◌+ℤ◌, ◌-ℤ◌, ◌*ℤ◌, neg_ℤ, ℤ};
 ghost use Rattle.ad_value.specs.Content.{Content, content, integer};
-ghost use Rattle.ad_eval.specs.Operators.{within, quotient, remainder, calculated, of_numbers, of_number};
-ghost use Rattle.ad_eval.specs.Checked.{checked};
+ghost use Rattle.ad_func.specs.Values.{ComesTo};
+ghost use Rattle.ad_eval.specs.Operators.{integer_or_error, quotient, remainder, arithmetic_value, of_numbers, of_number};
+ghost use Rattle.ad_eval.specs.Checked.{checked_value};
 
 use ad_tree::BinOp;
 use ad_value::Value;
 
-fn checked(number: Option<i64>) -> Value
-    ensures { content result ≡ checked number }
+fn checked_value(number: Option<i64>) -> Value
+    ensures { content result ≡ checked_value number }
 {
     match number {
         Some(n) => Value::Int(n),
@@ -18,23 +19,23 @@ fn checked(number: Option<i64>) -> Value
 /// A sum that is out of range is an error, and likewise below.
 #[tactic(auto, using(crate::proofs::NumberLemmas::checked_is))]
 fn sum(a: i64, b: i64) -> Value
-    ensures { content result ≡ within (a +ℤ b) }
+    ensures { content result ≡ integer_or_error (a +ℤ b) }
 {
-    checked(a.checked_add(b))
+    checked_value(a.checked_add(b))
 }
 
 #[tactic(auto, using(crate::proofs::NumberLemmas::checked_is))]
 fn difference(a: i64, b: i64) -> Value
-    ensures { content result ≡ within (a -ℤ b) }
+    ensures { content result ≡ integer_or_error (a -ℤ b) }
 {
-    checked(a.checked_sub(b))
+    checked_value(a.checked_sub(b))
 }
 
 #[tactic(auto, using(crate::proofs::NumberLemmas::checked_is))]
 fn product(a: i64, b: i64) -> Value
-    ensures { content result ≡ within (a *ℤ b) }
+    ensures { content result ≡ integer_or_error (a *ℤ b) }
 {
-    checked(a.checked_mul(b))
+    checked_value(a.checked_mul(b))
 }
 
 #[tactic(auto, using(crate::proofs::NumberLemmas::quotient_is))]
@@ -44,7 +45,7 @@ fn quotient(a: i64, b: i64) -> Value
     if b == 0 {
         return Value::Error;
     }
-    checked(a.checked_div(b))
+    checked_value(a.checked_div(b))
 }
 
 // The least integer has the remainder 0 by -1.
@@ -58,8 +59,8 @@ fn remainder(a: i64, b: i64) -> Value
 }
 
 /// `+`, `-`, `*`, `/` and `%`.
-pub fn calculate(op: BinOp, a: i64, b: i64) -> Value
-    ensures { content result ≡ calculated op a b }
+pub fn arithmetic_value(op: BinOp, a: i64, b: i64) -> Value
+    ensures { content result ≡ arithmetic_value op a b }
 {
     match op {
         BinOp::Add => sum(a, b),
@@ -72,8 +73,10 @@ pub fn calculate(op: BinOp, a: i64, b: i64) -> Value
 }
 
 /// The numbers of two operands, or the value where their kinds already give it.
-pub fn numbers(a: &Value, b: &Value) -> Result<(i64, i64), Value>
-    ensures { (f : ℤ → ℤ → Content) → MatchResult result (λ n. of_numbers f (content a.now) (content b.now) ≡ f n.0 n.1) (λ v. of_numbers f (content a.now) (content b.now) ≡ content v) }
+pub fn operand_numbers(a: &Value, b: &Value) -> Result<(i64, i64), Value>
+    ensures { (f : ℤ → ℤ → Content) → ComesTo result
+        (of_numbers f (content a.now) (content b.now))
+        (λ n. f n.0 n.1) }
 {
     match (a, b) {
         (Value::Error | Value::Str(_) | Value::List(_), _)
@@ -88,14 +91,14 @@ pub fn numbers(a: &Value, b: &Value) -> Result<(i64, i64), Value>
 
 #[tactic(auto, using(crate::proofs::NumberLemmas::checked_is))]
 fn negate(n: i64) -> Value
-    ensures { content result ≡ within (neg_ℤ n) }
+    ensures { content result ≡ integer_or_error (neg_ℤ n) }
 {
-    checked(n.checked_neg())
+    checked_value(n.checked_neg())
 }
 
 /// `-a`
-pub fn minus(a: &Value) -> Value
-    ensures { content result ≡ of_number (λ n. within (neg_ℤ n)) (content a.now) }
+pub fn unary_minus(a: &Value) -> Value
+    ensures { content result ≡ of_number (λ n. integer_or_error (neg_ℤ n)) (content a.now) }
 {
     match a {
         Value::Undefined => Value::Undefined,
@@ -106,7 +109,7 @@ pub fn minus(a: &Value) -> Value
 }
 
 /// `+a`
-pub fn plus(a: &Value) -> Value
+pub fn unary_plus(a: &Value) -> Value
     ensures { content result ≡ of_number integer (content a.now) }
 {
     match a {

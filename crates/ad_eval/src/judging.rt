@@ -1,7 +1,9 @@
-ghost use Rattle.std.specs.Prelude.{◌≡◌, ◌+◌, true, false, IfOk, MatchOption};
+ghost use Rattle.std.specs.Prelude.{◌≡◌, ◌+◌, true, false, IfOk};
 ghost use Rattle.ad_eval.specs.Match.{matches, requirements_hold};
+ghost use Rattle.ad_eval.specs.Judgement.{JudgesPair};
 
 use crate::evaluation::holds;
+use crate::names::REQUIREMENTS;
 use crate::steps::Steps;
 use ad_tree::Ad;
 use ad_value::{Copied, Memory};
@@ -9,8 +11,8 @@ use std::alloc::Global;
 use std::marker::Model;
 use std::sync::ledger::Ledger;
 
-/// A job and a slot that were judged to match at a moment: only such a pair has one. Contracts see a `Judgement`, whose `fits` is
-/// the proof.
+/// A job and a slot that were judged to match at a moment: only such a pair has one. Contracts see
+/// a `Judgement`, whose `fits` is the proof.
 pub struct Judged {
     job: Ad,
     slot: Ad,
@@ -40,19 +42,21 @@ impl Model for Judged {
 }
 
 impl Judged {
+    /// A copy of the job's ad. Computes in O(1).
     pub fn job(&self) -> &Ad
         ensures { result.now ≡ self.now.job }
     {
         &self.job
     }
 
+    /// A copy of the slot's ad. Computes in O(1).
     pub fn slot(&self) -> &Ad
         ensures { result.now ≡ self.now.slot }
     {
         &self.slot
     }
 
-    /// The moment, in seconds since 1970-01-01 00:00:00 UTC.
+    /// The moment, in seconds since 1970-01-01 00:00:00 UTC. Computes in O(1).
     pub fn at(&self) -> u64
         ensures { result ≡ self.now.at }
     {
@@ -73,11 +77,12 @@ impl Copied for Judged {
 fn requirements_hold(alloc: Global, my: &Ad, target: &Ad, now: u64) -> Result<bool, Memory>
     ensures { IfOk result (λ h. h ≡ requirements_hold my.now target.now now) }
 {
-    holds(alloc, my, Some(target), "Requirements", now)
+    holds(alloc, my, Some(target), REQUIREMENTS, now)
 }
 
-/// Whether the Requirements of both hold with the other as target (Raman, Livny and Solomon, "Matchmaking", 1998).
-pub fn matches(alloc: Global, job: &Ad, slot: &Ad, now: u64) -> Result<bool, Memory>
+/// Whether the Requirements of both hold with the other as target (Raman, Livny and Solomon,
+/// "Matchmaking", 1998). Computes as two calls of `holds`.
+fn matches(alloc: Global, job: &Ad, slot: &Ad, now: u64) -> Result<bool, Memory>
     ensures { IfOk result (λ m. m ≡ matches job.now slot.now now) }
 {
     if !requirements_hold(alloc, job, slot, now)? {
@@ -86,18 +91,10 @@ pub fn matches(alloc: Global, job: &Ad, slot: &Ad, now: u64) -> Result<bool, Mem
     requirements_hold(alloc, slot, job, now)
 }
 
-/// Copies of a job and a slot where they match, at the reading `now` in seconds. A call is one step.
-pub fn judge<L: Ledger>(
-    alloc: Global,
-    job: &Ad,
-    slot: &Ad,
-    now: u64,
-    steps: &mut Steps<L>,
-) -> Result<Option<Judged>, Memory>
-    ensures judged { IfOk result (λ o. MatchOption o (matches job.now slot.now now ≡ false) (λ j. (j.job ≡ job.now) × (j.slot ≡ slot.now) × (j.at ≡ now))) }
-    ensures step { steps.new ≡ steps.old + 1 }
+/// Copies of a job and a slot where they match. `judge` counts it as a step.
+pub fn judge_pair(alloc: Global, job: &Ad, slot: &Ad, now: u64) -> Result<Option<Judged>, Memory>
+    ensures { IfOk result (JudgesPair job.now slot.now now) }
 {
-    steps.tick();
     if !matches(alloc, job, slot, now)? {
         return Ok(None);
     }
@@ -106,4 +103,21 @@ pub fn judge<L: Ledger>(
         slot: slot.copy(alloc)?,
         at: now,
     }))
+}
+
+/// Copies of a job and a slot where they match, at the reading `now`, in seconds since 1970-01-01
+/// 00:00:00 UTC. A call is one step. Computes in two evaluations, and in O(size of both ads) where
+/// they match.
+pub fn judge<L: Ledger>(
+    alloc: Global,
+    job: &Ad,
+    slot: &Ad,
+    now: u64,
+    steps: &mut Steps<L>,
+) -> Result<Option<Judged>, Memory>
+    ensures judged { IfOk result (JudgesPair job.now slot.now now) }
+    ensures step { steps.new ≡ steps.old + 1 }
+{
+    steps.tick();
+    judge_pair(alloc, job, slot, now)
 }

@@ -1,18 +1,21 @@
-//! The evaluator of ClassAd expressions over two ads, and the match of a job and a slot.
+//! The evaluator of ClassAd expressions over two ads, and the match of a job and a slot. What is
+//! proved of every match stands in `laws`.
 #![tactic(auto)]
 
 mod arithmetic;
 mod evaluation;
 mod judging;
-mod laws;
+pub mod laws;
 mod logic;
 mod mismatch;
+mod names;
 mod operators;
+mod progress;
 mod sides;
 mod steps;
 
 pub use evaluation::{eval, holds, holds_expr, rank};
 pub use judging::{Judged, judge};
-pub use laws::{judged_pairs_match, no_pair_matches, places_are_names};
-pub use mismatch::{NoMatch, none_match};
+pub use mismatch::{FoundMatch, NoMatch, none_match};
+pub use names::{RANK, REQUIREMENTS};
 pub use steps::Steps;

@@ -1,6 +1,6 @@
 ghost use Rattle.std.specs.Prelude.{◌≡◌};
 ghost use Rattle.ad_value.specs.Content.{content};
-ghost use Rattle.ad_eval.specs.Operators.{truth_of, both, either, negated};
+ghost use Rattle.ad_eval.specs.Operators.{truth_of, both, either, negated_value};
 
 use ad_value::Value;
 
@@ -51,8 +51,8 @@ pub fn either(a: Truth, b: Truth) -> Value
 }
 
 /// `!a`
-pub fn negated(a: Truth) -> Value
-    ensures { content result ≡ negated a }
+pub fn negated_value(a: Truth) -> Value
+    ensures { content result ≡ negated_value a }
 {
     match a {
         Truth::True => Value::Bool(false),

@@ -1,14 +1,16 @@
-ghost use Rattle.std.specs.Prelude.{◌≡◌, true, false, IfOk, MatchOption, MatchResult, slice_get, take, Some};
-ghost use Rattle.ad_eval.specs.Match.{matches, matches_any, any_match, IsFirstMatch, IsFirstSlot};
+ghost use Rattle.std.specs.Prelude.{◌≡◌, false, IfOk, MatchOption, MatchResult};
+ghost use Rattle.ad_eval.specs.Match.{matches_any, any_match};
+ghost use Rattle.ad_eval.specs.Judgement.{IsMismatchOf};
+ghost use Rattle.ad_eval.specs.FirstMatch.{IsFirstMatch, IsFirstSlot};
 
-use crate::judging::matches;
+use crate::judging::{Judged, judge_pair};
 use ad_tree::{Ad, AdList};
 use ad_value::{Copied, Memory};
 use std::alloc::Global;
 use std::marker::Model;
 
-/// Jobs and slots of which no pair matches at a moment: only such lists have one. Contracts see a `Mismatch`, whose `unfit` is the
-/// proof.
+/// Jobs and slots of which no pair matches at a moment: only such lists have one. Contracts see a
+/// `Mismatch`, whose `unfit` is the proof.
 pub struct NoMatch {
     jobs: AdList,
     slots: AdList,
@@ -38,19 +40,21 @@ impl Model for NoMatch {
 }
 
 impl NoMatch {
+    /// Copies of the jobs' ads. Computes in O(1).
     pub fn jobs(&self) -> &AdList
         ensures { result.now ≡ self.now.jobs }
     {
         &self.jobs
     }
 
+    /// Copies of the slots' ads. Computes in O(1).
     pub fn slots(&self) -> &AdList
         ensures { result.now ≡ self.now.slots }
     {
         &self.slots
     }
 
-    /// The moment, in seconds since 1970-01-01 00:00:00 UTC.
+    /// The moment, in seconds since 1970-01-01 00:00:00 UTC. Computes in O(1).
     pub fn at(&self) -> u64
         ensures { result ≡ self.now.at }
     {
@@ -68,47 +72,74 @@ impl Copied for NoMatch {
     }
 }
 
-// The first slot that a job matches.
-fn first_slot(alloc: Global, job: &Ad, slots: &[Ad], now: u64) -> Result<Option<usize>, Memory>
-    ensures { IfOk result (λ o. MatchOption o (matches_any slots.now job.now now ≡ false) (λ k. IsFirstSlot slots.now job.now now k)) }
+/// The least pair that matches: the places of the job and of the slot in their lists, from 0, and
+/// the match of the two.
+#[derive(Drop)]
+pub struct FoundMatch {
+    pub job: u64,
+    pub slot: u64,
+    pub judged: Judged,
+}
+
+// The first slot that the job at a place matches.
+fn match_of_job(
+    alloc: Global,
+    place: usize,
+    job: &Ad,
+    slots: &[Ad],
+    now: u64,
+) -> Result<Option<FoundMatch>, Memory>
+    ensures { IfOk result (λ o. MatchOption o
+        (matches_any slots.now job.now now ≡ false)
+        (IsFirstSlot slots.now job.now place now)) }
 {
     for (k, slot) in slots.iter().enumerate() {
-        if matches(alloc, job, slot, now)? {
-            return Ok(Some(k));
+        if let Some(judged) = judge_pair(alloc, job, slot, now)? {
+            return Ok(Some(FoundMatch {
+                job: place as u64,
+                slot: k as u64,
+                judged,
+            }));
         }
     }
     Ok(None)
 }
 
-// The least places of a job and a slot that match.
+// The first match, by job, then by slot.
 fn first_match(
     alloc: Global,
     jobs: &[Ad],
     slots: &[Ad],
     now: u64,
-) -> Result<Option<(usize, usize)>, Memory>
-    ensures { IfOk result (λ o. MatchOption o (any_match jobs.now slots.now now ≡ false) (λ p. IsFirstMatch jobs.now slots.now now p.0 p.1)) }
+) -> Result<Option<FoundMatch>, Memory>
+    ensures { IfOk result (λ o. MatchOption o
+        (any_match jobs.now slots.now now ≡ false)
+        (IsFirstMatch jobs.now slots.now now)) }
 {
     for (i, job) in jobs.iter().enumerate() {
-        if let Some(k) = first_slot(alloc, job, slots, now)? {
-            return Ok(Some((i, k)));
+        if let Some(found) = match_of_job(alloc, i, job, slots, now)? {
+            return Ok(Some(found));
         }
     }
     Ok(None)
 }
 
-/// Copies of the jobs and the slots where no pair matches at the reading `now` in seconds, else the least places of a job and a
-/// slot that match, by job, then by slot. Takes the time of one judgement a pair.
+/// Copies of the jobs and the slots where no pair matches at the reading `now`, in seconds since
+/// 1970-01-01 00:00:00 UTC, else the least pair that does, by job, then by slot, with its match.
+/// Computes in O(jobs × slots) pairs of evaluations, and copies all ads where no pair matches, else
+/// the two that do.
 pub fn none_match(
     alloc: Global,
     jobs: &AdList,
     slots: &AdList,
     now: u64,
-) -> Result<Result<NoMatch, (u64, u64)>, Memory>
-    ensures { IfOk result (λ r. MatchResult r (λ m. (m.jobs ≡ jobs.now) × (m.slots ≡ slots.now) × (m.at ≡ now)) (λ p. IsFirstMatch jobs.now slots.now now p.0 p.1)) }
+) -> Result<Result<NoMatch, FoundMatch>, Memory>
+    ensures { IfOk result (λ r. MatchResult r
+        (IsMismatchOf jobs.now slots.now now)
+        (IsFirstMatch jobs.now slots.now now)) }
 {
-    if let Some((i, k)) = first_match(alloc, jobs.as_slice(), slots.as_slice(), now)? {
-        return Ok(Err((i as u64, k as u64)));
+    if let Some(found) = first_match(alloc, jobs.as_slice(), slots.as_slice(), now)? {
+        return Ok(Err(found));
     }
     Ok(Ok(NoMatch {
         jobs: jobs.copy(alloc)?,

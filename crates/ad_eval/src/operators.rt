@@ -1,9 +1,10 @@
-ghost use Rattle.std.specs.Prelude.{◌≡◌, IfOk, IfSome};
+ghost use Rattle.std.specs.Prelude.{◌≡◌, IfSome};
 ghost use Rattle.ad_value.specs.Content.{Content, content};
-ghost use Rattle.ad_eval.specs.Operators.{applied, prefixed, compared, stands, same, of_numbers, calculated};
+ghost use Rattle.ad_func.specs.Values.{GivesValue};
+ghost use Rattle.ad_eval.specs.Operators.{binary_value, unary_value, comparison_result, stands, same, of_numbers, arithmetic_value};
 
-use crate::arithmetic::{calculate, minus, numbers, plus};
-use crate::logic::{Truth, both, either, negated, truth_of};
+use crate::arithmetic::{arithmetic_value, operand_numbers, unary_minus, unary_plus};
+use crate::logic::{Truth, both, either, negated_value, truth_of};
 use ad_tree::{BinOp, UnOp};
 use ad_value::{Memory, Order, Value};
 use std::alloc::Global;
@@ -22,8 +23,8 @@ fn stands(op: BinOp, order: Order) -> bool
     )
 }
 
-fn compared(op: BinOp, order: Order) -> Value
-    ensures { content result ≡ compared op order }
+fn comparison_result(op: BinOp, order: Order) -> Value
+    ensures { content result ≡ comparison_result op order }
 {
     match order {
         Order::Error => Value::Error,
@@ -39,18 +40,18 @@ fn same(a: &Value, b: &Value) -> bool
     a.same(b)
 }
 
-fn calculated(op: BinOp, a: &Value, b: &Value) -> Value
-    ensures { content result ≡ of_numbers (calculated op) (content a.now) (content b.now) }
+fn apply_arithmetic(op: BinOp, a: &Value, b: &Value) -> Value
+    ensures { content result ≡ of_numbers (arithmetic_value op) (content a.now) (content b.now) }
 {
-    match numbers(a, b) {
-        Ok((x, y)) => calculate(op, x, y),
+    match operand_numbers(a, b) {
+        Ok((x, y)) => arithmetic_value(op, x, y),
         Err(value) => value,
     }
 }
 
 /// What an operator makes of two values.
 pub fn apply(alloc: Global, op: BinOp, a: &Value, b: &Value) -> Result<Value, Memory>
-    ensures { IfOk result (λ v. content v ≡ applied op (content a.now) (content b.now)) }
+    ensures { GivesValue result (binary_value op (content a.now) (content b.now)) }
 {
     match op {
         BinOp::Or => Ok(either(truth_of(a), truth_of(b))),
@@ -62,16 +63,16 @@ pub fn apply(alloc: Global, op: BinOp, a: &Value, b: &Value) -> Result<Value, Me
         | BinOp::Less
         | BinOp::LessEqual
         | BinOp::GreaterEqual
-        | BinOp::Greater => Ok(compared(op, a.order(alloc, b)?)),
+        | BinOp::Greater => Ok(comparison_result(op, a.order(alloc, b)?)),
         BinOp::Add | BinOp::Subtract | BinOp::Multiply | BinOp::Divide | BinOp::Modulo => {
-            Ok(calculated(op, a, b))
+            Ok(apply_arithmetic(op, a, b))
         }
     }
 }
 
 /// The value where the left operand alone gives it.
 pub fn settle(op: BinOp, a: &Value) -> Option<Value>
-    ensures { IfSome result (λ v. (b : Content) → applied op (content a.now) b ≡ content v) }
+    ensures { IfSome result (λ v. (b : Content) → binary_value op (content a.now) b ≡ content v) }
 {
     match (op, truth_of(a)) {
         (BinOp::And, Truth::False) => Some(Value::Bool(false)),
@@ -82,11 +83,11 @@ pub fn settle(op: BinOp, a: &Value) -> Option<Value>
 
 /// What an operator before its operand makes of it.
 pub fn apply_unary(op: UnOp, a: &Value) -> Value
-    ensures { content result ≡ prefixed op (content a.now) }
+    ensures { content result ≡ unary_value op (content a.now) }
 {
     match op {
-        UnOp::Minus => minus(a),
-        UnOp::Plus => plus(a),
-        UnOp::Not => negated(truth_of(a)),
+        UnOp::Minus => unary_minus(a),
+        UnOp::Plus => unary_plus(a),
+        UnOp::Not => negated_value(truth_of(a)),
     }
 }
