@@ -5,13 +5,13 @@ use Rattle.std.specs.Ordering.{int_eq}
 use Rattle.ad_value.specs.declared.order.Order.TheVariants.{Less, Equal, Greater}
 use Rattle.ad_value.specs.Content.{truth}
 use Rattle.ad_tree.specs.declared.operator.BinOp.TheVariants.{GreaterEqual}
-use Rattle.ad_eval.specs.Operators.{both, truth_of, compared}
+use Rattle.ad_eval.specs.Operators.{both, truth_of, comparison_result}
 use Rattle.ad_eval.specs.Mean.{look}
 use Rattle.ad_eval.specs.Match.{matches, holds_as, requirements_hold}
 use Rattle.pool_master.specs.Made.{job_ad, slot_ad}
 
 -- the job's Requirements, by how the memory compares
-of_tests : (less equal : Bool) → holds_as (both (truth_of (both (truth_of (truth true)) (truth_of (compared GreaterEqual (if less then Less else (if equal then Equal else Greater)))))) (truth_of (truth true))) ≡ not less
+of_tests : (less equal : Bool) → holds_as (both (truth_of (both (truth_of (truth true)) (truth_of (comparison_result GreaterEqual (if less then Less else (if equal then Equal else Greater)))))) (truth_of (truth true))) ≡ not less
 of_tests true equal = refl
 of_tests false true = refl
 of_tests false false = refl

@@ -4,7 +4,8 @@ use Rattle.std.specs.Prelude.{option_map}
 use Rattle.std.specs.List.{cons_option}
 use Rattle.ad_tree.specs.Ad.{Attributes}
 use Rattle.ad_eval.specs.Judgement.{Judgement, Mismatch}
-use Rattle.ad_eval.specs.Match.{matches, IsFirstMatch}
+use Rattle.ad_eval.specs.declared.mismatch.FoundMatch.{FoundMatch}
+use Rattle.ad_eval.specs.FirstMatch.{IsFirstMatch}
 use Rattle.pool_core.specs.declared.answer.StepError.{StepError}
 use Rattle.pool_core.specs.declared.answer.StepError.TheVariants.{Occupied, AdMoved}
 use Rattle.pool_core.specs.declared.event.End.{End}
@@ -96,17 +97,18 @@ ads_of_slots (s ∷ ss) (suc k) = ads_of_slots ss k
 
 -- ---- the first pair that matches
 
-pub some_job : (p : PoolValue) (now i k : ℕ) → IsFirstMatch (idle_ads p.jobs) (slot_ads p.slots) now i k → None ≡ slice_get (idle_jobs p.jobs) i → ⊥
-some_job p now i k first none = none_is_some first.job (sym (ads_of_jobs p.jobs i ∙ ap (option_map (λ (e : JobId × Attributes). e.1)) (sym none)) ∙ first.there)
+pub some_job : (p : PoolValue) (now : ℕ) (found : FoundMatch) → IsFirstMatch (idle_ads p.jobs) (slot_ads p.slots) now found → None ≡ slice_get (idle_jobs p.jobs) found.job → ⊥
+some_job p now found first none = none_is_some found.judged.job (sym (ads_of_jobs p.jobs found.job ∙ ap (option_map (λ (e : JobId × Attributes). e.1)) (sym none)) ∙ first.job_there)
 
-pub some_slot : (p : PoolValue) (now i k : ℕ) → IsFirstMatch (idle_ads p.jobs) (slot_ads p.slots) now i k → slice_get p.slots k ≡ None → ⊥
-some_slot p now i k first none = none_is_some first.slot.slot (sym (ads_of_slots p.slots k ∙ ap (option_map (λ (s : SlotAd). s.ad)) none) ∙ first.slot.there)
+pub some_slot : (p : PoolValue) (now : ℕ) (found : FoundMatch) → IsFirstMatch (idle_ads p.jobs) (slot_ads p.slots) now found → slice_get p.slots found.slot ≡ None → ⊥
+some_slot p now found first none = none_is_some found.judged.slot (sym (ads_of_slots p.slots found.slot ∙ ap (option_map (λ (s : SlotAd). s.ad)) none) ∙ first.slot_there)
 
-pub pair_matches : (p : PoolValue) (now i k : ℕ) (id : JobId) (ad : Attributes) (s : SlotAd) → IsFirstMatch (idle_ads p.jobs) (slot_ads p.slots) now i k → slice_get (idle_jobs p.jobs) i ≡ Some (id, ad) → slice_get p.slots k ≡ Some s → matches ad s.ad now ≡ true
-pair_matches p now i k id ad s first job slot =
-    let one : first.job ≡ ad = some_same first.job ad (sym first.there ∙ (ads_of_jobs p.jobs i ∙ ap (option_map (λ (e : JobId × Attributes). e.1)) job)) in
-    let other : first.slot.slot ≡ s.ad = some_same first.slot.slot s.ad (sym first.slot.there ∙ (ads_of_slots p.slots k ∙ ap (option_map (λ (x : SlotAd). x.ad)) slot)) in
-    rw (← one, ← other) first.slot.match
+-- the ads that were judged are those at the found places
+pub found_ads : (p : PoolValue) (now : ℕ) (found : FoundMatch) (id : JobId) (ad : Attributes) (s : SlotAd) → IsFirstMatch (idle_ads p.jobs) (slot_ads p.slots) now found → slice_get (idle_jobs p.jobs) found.job ≡ Some (id, ad) → slice_get p.slots found.slot ≡ Some s → (found.judged.job ≡ ad) × (found.judged.slot ≡ s.ad)
+found_ads p now found id ad s first job slot = (
+  some_same found.judged.job ad (sym first.job_there ∙ (ads_of_jobs p.jobs found.job ∙ ap (option_map (λ (e : JobId × Attributes). e.1)) job)),
+  some_same found.judged.slot s.ad (sym first.slot_there ∙ (ads_of_slots p.slots found.slot ∙ ap (option_map (λ (x : SlotAd). x.ad)) slot)),
+)
 
 -- ---- what it accepts
 

@@ -1,6 +1,6 @@
 ghost use Rattle.std.specs.Prelude.{◌≡◌, ◌≢◌, ◌≤◌, ◌<◌, ◌+◌, ◌^◌, ◌++◌, ◌∷◌, [], ℕ, List, Bool, true, false, None, Some, IfOk, OnOk, OnErr, IsTrue, is_ok, MatchOption, slice_get, ◌↔◌, ◌⊎◌};
 ghost use Rattle.std.specs.Option.{option_copied};
-ghost use Rattle.ad_eval.specs.Match.{matches, IsFirstMatch};
+ghost use Rattle.ad_eval.specs.FirstMatch.{IsFirstMatch};
 ghost use Rattle.pool_outer.specs.declared.spawner.Launch.{Launch};
 ghost use Rattle.pool_outer.specs.Cause.{Rose};
 ghost use Rattle.pool_core.specs.declared.answer.Kept.TheVariants as kept;
@@ -17,15 +17,13 @@ ghost use Rattle.pool_master.specs.Run.{IsSubmitted};
 use crate::form::SubmitFile;
 use crate::made::job_ad;
 use crate::pause::Pause;
-use ad_eval::{Judged, NoMatch, Steps, judge, none_match};
-use ad_tree::{Ad, AdList};
+use ad_eval::{FoundMatch, Judged, NoMatch, none_match};
+use ad_tree::AdList;
 use ad_value::Memory;
 use pool_core::{Answer, Course, End, Event, JobId, Pool, SlotAd, SlotId};
 use pool_outer::{ChildState, Clock, Launch, SpawnError, Spawner};
 use std::alloc::Global;
-use std::marker::Brand;
 use std::sync::Wait;
-use std::sync::ledger::{Blank, Ledger};
 
 /// A job that is to start on a slot, which it was judged to match.
 #[derive(Drop)]
@@ -126,39 +124,29 @@ fn what_next(alloc: Global, pool: &Pool, reading: u64) -> Result<Next, Memory>
     let slots = pool.slot_ads(alloc)?;
     match none_match(alloc, &jobs, &slots, reading)? {
         Ok(none) => Ok(Next::Close { none }),
-        Err((job, slot)) => Ok(Next::Start {
-            pair: pair_at(alloc, pool, job as usize, slot as usize, reading)?,
+        Err(found) => Ok(Next::Start {
+            pair: pair_at(pool, found, reading),
         }),
     }
 }
 
-// The idle job and the slot at these places, which match.
-fn pair_at(
-    alloc: Global,
-    pool: &Pool,
-    job: usize,
-    slot: usize,
-    reading: u64,
-) -> Result<Pair, Memory>
+// The idle job and the slot of a pair that was found.
+fn pair_at(pool: &Pool, found: FoundMatch, reading: u64) -> Pair
     requires resting { IsResting pool.now }
-    requires first { IsFirstMatch (idle_ads pool.now.jobs) (slot_ads pool.now.slots) reading job slot }
-    ensures { IfOk result (λ pair. refusal pool.now (Start pair.job pair.slot pair.judged reading) ≡ None) }
+    requires first { IsFirstMatch (idle_ads pool.now.jobs) (slot_ads pool.now.slots) reading found }
+    ensures { refusal pool.now (Start result.job result.slot result.judged reading) ≡ None }
 {
-    let Some((job, job_ad)) = pool.idle_job(job) else {
+    let Some((job, _job_ad)) = pool.idle_job(found.job as usize) else {
         unreachable!();
     };
-    let Some(slot) = slot_at(pool, slot) else {
+    let Some(slot) = slot_at(pool, found.slot as usize) else {
         unreachable!();
     };
-    let Some(judged) = judge_uncounted::<Brand>(alloc, job_ad, &slot.ad, reading, Blank::new(1))?
-    else {
-        unreachable!();
-    };
-    Ok(Pair {
+    Pair {
         job,
         slot: slot.slot,
-        judged,
-    })
+        judged: found.judged,
+    }
 }
 
 // The slot at a place.
@@ -166,23 +154,6 @@ fn slot_at(pool: &Pool, place: usize) -> Option<&SlotAd>
     ensures { option_copied result ≡ slice_get pool.now.slots place }
 {
     pool.slots().as_slice().get(place)
-}
-
-// Judges a job and a slot, and counts no steps.
-fn judge_uncounted<L: Ledger>(
-    alloc: Global,
-    job: &Ad,
-    slot: &Ad,
-    reading: u64,
-    blank: Blank,
-) -> Result<Option<Judged>, Memory>
-    requires name { blank.name ≡ L.name }
-    requires parts { blank.parts ≡ L.parts }
-    requires some { 0 < blank.parts }
-    ensures { IfOk result (λ o. MatchOption o (matches job.now slot.now reading ≡ false) (λ j. (j.job ≡ job.now) × (j.slot ≡ slot.now) × (j.at ≡ reading))) }
-{
-    let mut steps = Steps::<L>::new(blank);
-    judge(alloc, job, slot, reading, &mut steps)
 }
 
 fn close(alloc: Global, course: &mut Course, reading: u64, none: NoMatch) -> Result<(), Memory>
