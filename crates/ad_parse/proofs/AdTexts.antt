@@ -7,7 +7,7 @@ use Rattle.ad_parse.specs.declared.error.ParseError.{ParseError}
 use Rattle.ad_parse.specs.declared.error.AdError.{AdError}
 use Rattle.ad_parse.specs.declared.error.AdError.TheVariants as fault
 use Rattle.ad_parse.specs.ExprText.{expression_at}
-use Rattle.ad_parse.specs.AdText.{lines, is_skipped, setting, is_full_for, with_line, with_setting, with_expression, at_line, unless_refused, with_lines, next_number, ad_at}
+use Rattle.ad_parse.specs.AdText.{lines_of_text, is_skipped, setting, is_full_for, with_line, with_setting, with_expression, at_line, unless_refused, with_lines, next_number, ad_at}
 use Rattle.ad_parse.specs.AdLines.{IsSetting, HasRoom, AreAdLines, ended, skip, set, IsAdText}
 use Rattle.ad_parse.proofs.Texts.{said_is_read, IsReading, is_reading}
 use Rattle.ad_parse.proofs.Settings.{skipped_from, skipped_is, setting_from_parts, setting_parts, not_skipped, room_from, room_is, not_full}
@@ -84,7 +84,7 @@ lines_from n ad [] last within h = subst (λ x. AreAdLines ad [] x) (ok_same ad 
 lines_from n ad (line ∷ more) last within h = with_any n ad last line more within (λ x. lines_from (next_number n) x more last) (is_skipped line) refl h
 
 pub says_is_given : (text : List ℕ) (ad : Attributes) → IsAdText text ad → ad_at text ≡ Ok ad
-says_is_given text ad is = lines_give 1 [] (lines text) ad is
+says_is_given text ad is = lines_give 1 [] (lines_of_text text) ad is
 
 pub given_is_said : (text : List ℕ) (ad : Attributes) → ad_at text ≡ Ok ad → IsAdText text ad
-given_is_said text ad h = lines_from 1 [] (lines text) ad (omega arith) h
+given_is_said text ad h = lines_from 1 [] (lines_of_text text) ad (omega arith) h

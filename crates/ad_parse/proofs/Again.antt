@@ -15,10 +15,11 @@ use Rattle.ad_token.specs.declared.token.Bracket.TheVariants.{Round}
 use Rattle.ad_token.specs.declared.token.Token.{Token}
 use Rattle.ad_token.specs.declared.token.Token.TheVariants as token
 use Rattle.ad_token.specs.declared.token.Placed.{Placed}
+use Rattle.ad_token.specs.Canonical.{tokens_in}
 use Rattle.ad_parse.specs.Operators.{level_of, prefix_of, literal_of}
 use Rattle.ad_parse.specs.Grammar.{IsCond, alone, chosen, otherwise, IsLevel, operand, single, chained, IsRests, ended, more, IsOperand, prefixed, literally, named, called, bracketed, listed, IsItems, none, some, IsMore, last, another, IsText}
 use Rattle.ad_parse.specs.Canon.{looseness}
-use Rattle.ad_parse.specs.Spelling.{tokens, literal_token, prefix_token, spell_within, spell, spell_rests, spell_items, spell_more}
+use Rattle.ad_parse.specs.Spelling.{literal_token, prefix_token, spell_within, spell, spell_rests, spell_items, spell_more}
 use Rattle.ad_parse.proofs.Moved.{moved_cond, no_tokens}
 
 -- a token at the start of the text
@@ -34,9 +35,9 @@ place-append : (a b : List Token) (vs : List Placed) → place (a ++ b) vs ≡ p
 place-append [] b vs = refl
 place-append (t ∷ a) b vs = ap (λ x. mark t ∷ x) (place-append a b vs)
 
-tokens-place : (a : List Token) → tokens (place a []) ≡ a
-tokens-place [] = refl
-tokens-place (t ∷ a) = ap (λ x. t ∷ x) (tokens-place a)
+tokens_in-place : (a : List Token) → tokens_in (place a []) ≡ a
+tokens_in-place [] = refl
+tokens_in-place (t ∷ a) = ap (λ x. t ∷ x) (tokens_in-place a)
 
 -- more nesting may be allowed
 mutual
@@ -247,7 +248,7 @@ mutual
       subst (λ ts. IsMore b n (mark token.Comma ∷ ts) (and_tree e es) vs) (sym (place-append (spell e) (spell_more b es) vs)) (another refl (again_cond a (place (spell_more b es) vs)) (again_more c vs))
 
 -- Tokens that spell a tree that was read are text of it, wherever they stand.
-pub spelled_again : (us ts : List Placed) (e : Tree) → IsText us e → tokens ts ≡ spell e → IsText ts e
+pub spelled_again : (us ts : List Placed) (e : Tree) → IsText us e → tokens_in ts ≡ spell e → IsText ts e
 spelled_again us ts e h is =
-    let w = moved_cond (again_cond h []) ts (tokens-place (spell e) ∙ sym is) in
+    let w = moved_cond (again_cond h []) ts (tokens_in-place (spell e) ∙ sym is) in
     subst (λ ys. IsCond 65 ts e ys) (no_tokens w.0 w.1) w.2

@@ -19,24 +19,24 @@ name_boundary = prefixes.name_boundary
 pub past_first : (bs : List ℕ) (b : ℕ) → IsUtf8 bs → 0 < length bs → get_or bs 0 0 ≡ b → b < 128 → IsCharBoundary bs 1
 past_first = prefixes.past_first
 
-front_at : (bs : List ℕ) (n : ℕ) → n ≡ prefix_len is_blank bs → IsUtf8 bs → IsCharBoundary bs n
-front_at bs zero e utf8 = IsCharBoundary-start bs utf8
-front_at bs (suc n) e utf8 =
+start_at : (bs : List ℕ) (n : ℕ) → n ≡ prefix_len is_blank bs → IsUtf8 bs → IsCharBoundary bs n
+start_at bs zero e utf8 = IsCharBoundary-start bs utf8
+start_at bs (suc n) e utf8 =
     let le : prefix_len is_blank bs ≤ length bs = prefix_len-le-length is_blank bs in
     let one : n + 1 ≡ suc n = omega arith in
     subst (λ m. IsCharBoundary bs m) one (IsCharBoundary-after_ascii bs n utf8 (omega arith) (blank_ascii _ (prefix_len_passes is_blank bs n 0 (omega arith))))
 
-pub front_boundary : (bs : List ℕ) → IsUtf8 bs → IsCharBoundary bs (prefix_len is_blank bs)
-front_boundary bs utf8 = front_at bs _ refl utf8
+pub start_boundary : (bs : List ℕ) → IsUtf8 bs → IsCharBoundary bs (prefix_len is_blank bs)
+start_boundary bs utf8 = start_at bs _ refl utf8
 
-back_at : (bs : List ℕ) (n : ℕ) → n ≡ suffix_len is_blank bs → IsUtf8 bs → IsCharBoundary bs (length bs - n)
-back_at bs zero e utf8 = subst (λ n. IsCharBoundary bs n) (let all : length bs ≡ length bs - 0 = omega arith in all) (IsCharBoundary-end bs)
-back_at bs (suc n) e utf8 =
+end_at : (bs : List ℕ) (n : ℕ) → n ≡ suffix_len is_blank bs → IsUtf8 bs → IsCharBoundary bs (length bs - n)
+end_at bs zero e utf8 = subst (λ n. IsCharBoundary bs n) (let all : length bs ≡ length bs - 0 = omega arith in all) (IsCharBoundary-end bs)
+end_at bs (suc n) e utf8 =
     let le : suffix_len is_blank bs ≤ length bs = suffix_len-le-length is_blank bs in
     let blank : is_blank (get_or (reverse bs) n 0) ≡ true = prefix_len_passes is_blank (reverse bs) n 0 (omega arith) in
     let there : length bs - 1 - n ≡ length bs - suc n = omega arith in
     IsCharBoundary-before_ascii bs (length bs - suc n) (omega arith)
     (blank_ascii _ (subst (λ k. is_blank (get_or bs k 0) ≡ true) there (subst (λ b. is_blank b ≡ true) (get_or-reverse bs n 0 (omega arith)) blank)))
 
-pub back_boundary : (bs : List ℕ) → IsUtf8 bs → IsCharBoundary bs (length bs - suffix_len is_blank bs)
-back_boundary bs utf8 = back_at bs _ refl utf8
+pub end_boundary : (bs : List ℕ) → IsUtf8 bs → IsCharBoundary bs (length bs - suffix_len is_blank bs)
+end_boundary bs utf8 = end_at bs _ refl utf8

@@ -1,7 +1,8 @@
 -- Canonical texts of lists, one operand or item more at a time.
-use Rattle.std.proofs.Common.{◌≡◌, ℕ, zero, suc, ◌+◌, ◌-◌, ◌<◌, List, [], ◌∷◌, ◌++◌, length, map, take, get_or, codes, ap, sym, ◌∙◌, arith, rules, tests, append_assoc}
+use Rattle.std.proofs.Common.{◌≡◌, ℕ, zero, suc, ◌+◌, ◌-◌, ◌<◌, List, [], ◌∷◌, ◌++◌, length, map, take, get_or, codes, ap, sym, ◌∙◌, arith, rules, append_assoc}
 use Rattle.std.proofs.lemmas.List.{append-nil, length-map, length-take-le, take_more, map-append}
 use Rattle.ad_value.specs.Literal.{item_separator}
+use Rattle.ad_value.proofs.LiteralLemmas.{item_separator-suc}
 use Rattle.ad_tree.specs.declared.operator.BinOp.{BinOp}
 use Rattle.ad_tree.specs.declared.tree.Expr.{Expr, the_lemmas}
 use Rattle.ad_tree.specs.declared.tree.ExprList.{ExprList}
@@ -9,7 +10,7 @@ use Rattle.ad_tree.specs.declared.tree.Rest.{Rest}
 use Rattle.ad_tree.specs.declared.tree.RestList.{RestList, out-RestList}
 use Rattle.ad_tree.specs.Tree.{Tree, tree, trees, trees_of, rest, rests, rests_of}
 use Rattle.ad_parse.specs.Operators.{level_of}
-use Rattle.ad_parse.specs.Canon.{canon, canon_rests, canon_items, canon_more, within, looseness, infix_text}
+use Rattle.ad_parse.specs.Canon.{canon, canon_rests, canon_items, canon_more, canon_within, looseness, infix_text}
 
 pub trees-map : (l : ExprList) → trees l ≡ map tree l.items.items
 trees-map l = search (rules, the_lemmas)
@@ -23,7 +24,7 @@ more_at f xs i x p at = ap (map f) (take_more xs i x p ∙ ap (λ y. take i xs +
 
 -- an operator and its operand
 abbrev pub rest_text : BinOp × Tree → List ℕ
-rest_text r = infix_text r.0 ++ within (level_of r.0 - 1) (looseness r.1) (canon r.1)
+rest_text r = infix_text r.0 ++ canon_within (level_of r.0 - 1) (looseness r.1) (canon r.1)
 
 rests-push : (rs : List (BinOp × Tree)) (r : BinOp × Tree) → canon_rests (rests_of (rs ++ r ∷ [])) ≡ canon_rests (rests_of rs) ++ rest_text r
 rests-push [] r = append-nil (rest_text r)
@@ -34,9 +35,6 @@ rests_more bs xs i x p at =
     append_assoc bs (canon_rests (rests_of (map rest (take i xs)))) (rest_text (rest x))
     ∙ ap (λ l. bs ++ l) (sym (rests-push (map rest (take i xs)) (rest x)))
     ∙ ap (λ l. bs ++ canon_rests (rests_of l)) (sym (more_at rest xs i x p at))
-
-item_separator-suc : (i : ℕ) → item_separator (suc i) ≡ codes ", "
-item_separator-suc i = search (rules, tests)
 
 more-push : (es : List Tree) (e : Tree) → canon_more (trees_of (es ++ e ∷ [])) ≡ canon_more (trees_of es) ++ (codes ", " ++ canon e)
 more-push [] e = append-nil (codes ", " ++ canon e)

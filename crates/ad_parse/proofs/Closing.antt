@@ -13,7 +13,7 @@ use Rattle.ad_token.specs.declared.token.Placed.{Placed}
 use Rattle.ad_parse.specs.declared.error.ParseError.{ParseError}
 use Rattle.ad_parse.specs.Operators.{prefix_of, literal_of}
 use Rattle.ad_parse.specs.Grammar.{IsCond}
-use Rattle.ad_parse.specs.Reading.{is_same_bracket, is_close, cond_at}
+use Rattle.ad_parse.specs.Reader.{is_same_bracket, is_closing_mark, cond_at}
 use Rattle.ad_parse.specs.Misfit.{BeginsWithin, CanGoOn, operand_there}
 use Rattle.ad_parse.proofs.Sound.{some_is, read_is_spelled}
 use Rattle.ad_parse.proofs.Machine.{Frame, in_round, in_items, in_yes, Mode, wanted, wanted_or_none, there, State, closed, closed_items, next_item, other_branch, begun_with, begun_as, begun_by, begun, or_none, called, gone_on, step, step_if, step_within, is_deep, unless, is_blocked, goes, start, ends, Comes, goes_none, goes_append, shallow}
@@ -127,7 +127,7 @@ item_kept n b d c fs k t false h e = wanted_kept n d c fs k t (leb n d) refl (λ
 
 step_kept : (n : ℕ) (m : Mode) (c : ℕ) (fs : List Frame) (k : Token) (t : State) → Kept n m fs → step_within n m c fs k ≡ Some t → Kept n t.0 t.2
 step_kept n (wanted d) c fs k t h e = wanted_kept n d c fs k t (leb n d) refl h e
-step_kept n (wanted_or_none b d) c fs k t h e = item_kept n b d c fs k t (is_close b k) (opened_closable n b fs h) e
+step_kept n (wanted_or_none b d) c fs k t h e = item_kept n b d c fs k t (is_closing_mark b k) (opened_closable n b fs h) e
 step_kept n (there o) c fs k t h e = gone_on_kept n o c fs k t h e
 
 goes_kept : (n : ℕ) (o : Option State) (ts : List Placed) (t : State) → ((s : State) → o ≡ Some s → Kept n s.0 s.2) → goes n o ts ≡ Some t → Kept n t.0 t.2
@@ -177,7 +177,7 @@ no_top (token.Close b) = refl
 no_top token.Comma = refl
 no_top _ = refl
 
--- behind a whole condition nothing goes on
+-- after a whole condition nothing goes on
 pub top_stops : (o : Option ℕ) (c : ℕ) (k : Token) → CantGoOn o k → gone_on o c [] k ≡ None
 top_stops o c k h = past_is o c [] k h ∙ no_top k
 
@@ -216,7 +216,7 @@ unless_wider n m fit false d h = let low = leb-false n d h in lt-leb m d (omega 
 
 blocked_wider : (n m : ℕ) → n ≤ m → (s : Mode) (k : Token) → is_blocked n s k ≡ false → is_blocked m s k ≡ false
 blocked_wider n m fit (wanted d) k h = unless_wider n m fit false d h
-blocked_wider n m fit (wanted_or_none b d) k h = unless_wider n m fit (is_close b k) d h
+blocked_wider n m fit (wanted_or_none b d) k h = unless_wider n m fit (is_closing_mark b k) d h
 blocked_wider n m fit (there o) k h = refl
 
 step_wider : (m : ℕ) (x y : Bool) (o : Option State) (ts : List Placed) (t : State) → (x ≡ false → y ≡ false) → goes m (step_if x o) ts ≡ Some t → goes m (step_if y o) ts ≡ Some t

@@ -17,7 +17,7 @@ use Rattle.ad_parse.specs.declared.error.ParseError.{ParseError}
 use Rattle.ad_parse.specs.Gives.{Gives}
 use Rattle.ad_parse.specs.Operators.{level_of, prefix_of, literal_of}
 use Rattle.ad_parse.specs.Grammar.{IsCond, alone, chosen, otherwise, IsLevel, operand, single, chained, IsRests, ended, more, IsOperand, prefixed, literally, named, called, bracketed, listed, IsItems, none, some, IsMore, last, another, IsText}
-use Rattle.ad_parse.specs.Reading.{Read, ◌>>=◌, is_colon, is_same_bracket, is_close, pass, infix_of, infix_at, rests_at, chain_from, level_at, choice_by, choice_at, comma_of, more_items_at, items_from, items_at, open_of, open_at, called_by, named_at, primary_by, literal_or, operand_by, operand_with, operand_at, cond_at, whole_at, text_at}
+use Rattle.ad_parse.specs.Reader.{Read, ◌>>=◌, is_colon, is_same_bracket, is_closing_mark, pass_mark, infix_of, infix_at, rests_at, chain_from, level_at, choice_by, choice_at, comma_of, more_items_at, items_from, items_at, open_of, open_at, call_by, name_at, primary_by, literal_or, operand_by, operand_with, operand_at, cond_at, whole_at, text_at}
 use Rattle.ad_parse.proofs.Steps.{rests_none, rests_more, items_none, items_more}
 use Rattle.ad_parse.proofs.Sound.{bind_ok, ok_is, read_is_spelled}
 
@@ -62,15 +62,15 @@ if_true b x y z h g = ap (λ a. cond a x y) h ∙ g
 pub if_false : {A : Type 0} (b : Bool) (x y z : A) → b ≡ false → y ≡ z → cond b x y ≡ z
 if_false b x y z h g = ap (λ a. cond a x y) h ∙ g
 
-pass_ok : (mark : Token → Bool) (end : ℕ) (p : Placed) (ts : List Placed) → mark p.token ≡ true → pass mark end (p ∷ ts) ≡ Ok ts
+pass_ok : (mark : Token → Bool) (end : ℕ) (p : Placed) (ts : List Placed) → mark p.token ≡ true → pass_mark mark end (p ∷ ts) ≡ Ok ts
 pass_ok mark end p ts h = if_true (mark p.token) _ _ _ h refl
 
 same_bracket : (b : Bracket) → is_same_bracket b b ≡ true
 same_bracket Round = refl
 same_bracket Curly = refl
 
-closed : (b : Bracket) (p : Placed) → p.token ≡ token.Close b → is_close b p.token ≡ true
-closed b p i = ap (is_close b) i ∙ same_bracket b
+closed : (b : Bracket) (p : Placed) → p.token ≡ token.Close b → is_closing_mark b p.token ≡ true
+closed b p i = ap (is_closing_mark b) i ∙ same_bracket b
 
 -- neither an operator of a level up to l nor the bracket of a call goes on
 pub record Stops (l : ℕ) (ts : List Placed) : Type 0 where
@@ -135,16 +135,16 @@ module _ (end : ℕ) where
 -- what is spelled begins with no closing bracket
 abbrev pub begins_item : Bracket → List Placed → Bool
 begins_item b [] = false
-begins_item b (p ∷ ts) = cond (is_close b p.token) false true
+begins_item b (p ∷ ts) = cond (is_closing_mark b p.token) false true
 
-unclosed : (b : Bracket) (p : Placed) (ts : List Placed) → is_close b p.token ≡ false → begins_item b (p ∷ ts) ≡ true
-unclosed b p ts h = if_false (is_close b p.token) _ _ _ h refl
+unclosed : (b : Bracket) (p : Placed) (ts : List Placed) → is_closing_mark b p.token ≡ false → begins_item b (p ∷ ts) ≡ true
+unclosed b p ts h = if_false (is_closing_mark b p.token) _ _ _ h refl
 
-prefix_unclosed : (b : Bracket) (k : Token) (op : UnOp) → prefix_of k ≡ Some op → is_close b k ≡ false
+prefix_unclosed : (b : Bracket) (k : Token) (op : UnOp) → prefix_of k ≡ Some op → is_closing_mark b k ≡ false
 prefix_unclosed b (token.Close c) op h = cc
 prefix_unclosed b _ op h = refl
 
-literal_unclosed : (b : Bracket) (k : Token) (c : Content) → literal_of k ≡ Some c → is_close b k ≡ false
+literal_unclosed : (b : Bracket) (k : Token) (c : Content) → literal_of k ≡ Some c → is_closing_mark b k ≡ false
 literal_unclosed b (token.Close d) c h = cc
 literal_unclosed b _ c h = refl
 
@@ -163,10 +163,10 @@ module _ (b : Bracket) where
     pub begins_operand : {n : ℕ} {ts us : List Placed} {e : Tree} → IsOperand n ts e us → begins_item b ts ≡ true
     begins_operand (prefixed {p = p} {ts = ts} {op = op} i a) = unclosed b p ts (prefix_unclosed b p.token op i)
     begins_operand (literally {p = p} {ts = ts} {c = c} i) = unclosed b p ts (literal_unclosed b p.token c i)
-    begins_operand (named {p = p} {ts = ts} i) = unclosed b p ts (ap (is_close b) i)
-    begins_operand (called {p = p} {q = q} {ts = ts} i j a) = unclosed b p (q ∷ ts) (ap (is_close b) i)
-    begins_operand (bracketed {p = p} {ts = ts} i a c) = unclosed b p ts (ap (is_close b) i)
-    begins_operand (listed {p = p} {ts = ts} i a) = unclosed b p ts (ap (is_close b) i)
+    begins_operand (named {p = p} {ts = ts} i) = unclosed b p ts (ap (is_closing_mark b) i)
+    begins_operand (called {p = p} {q = q} {ts = ts} i j a) = unclosed b p (q ∷ ts) (ap (is_closing_mark b) i)
+    begins_operand (bracketed {p = p} {ts = ts} i a c) = unclosed b p ts (ap (is_closing_mark b) i)
+    begins_operand (listed {p = p} {ts = ts} i a) = unclosed b p ts (ap (is_closing_mark b) i)
 
 stops_less : (l k : ℕ) (ts : List Placed) → k ≤ l → Stops l ts → Stops k ts
 stops_less l k ts h f = record { operators = λ j b. f.operators j (omega arith); uncalled = f.uncalled }
@@ -213,14 +213,14 @@ module _ (end : ℕ) where
       ∙ ap (λ k. primary_by end (cond_at end n) k p.at ts) i
       ∙ h
 
-  named_rule : (inner : Read Tree) (s : Scope) (x : List ℕ) (ts : List Placed) → open_at ts ≡ None → named_at end inner s x ts ≡ Ok (reference s x, ts)
-  named_rule inner Bare x ts h = ap (called_by end inner x ts) h
+  named_rule : (inner : Read Tree) (s : Scope) (x : List ℕ) (ts : List Placed) → open_at ts ≡ None → name_at end inner s x ts ≡ Ok (reference s x, ts)
+  named_rule inner Bare x ts h = ap (call_by end inner x ts) h
   named_rule inner My x ts h = refl
   named_rule inner Target x ts h = refl
 
   item_first : (b : Bracket) (inner : Read Tree) (ts us : List Placed) (e : Tree) → begins_item b ts ≡ true → inner ts ≡ Ok (e, us) → items_at b end inner ts ≡ items_from b end inner e us
   item_first b inner [] us e i h = cc
-  item_first b inner (p ∷ ts) us e i h = if_false (is_close b p.token) _ _ _ (not_closed (is_close b p.token) i) (bind_at _ _ _ _ h refl)
+  item_first b inner (p ∷ ts) us e i h = if_false (is_closing_mark b p.token) _ _ _ (not_closed (is_closing_mark b p.token) i) (bind_at _ _ _ _ h refl)
 
   mutual
     pub complete_cond : {n : ℕ} {ts us : List Placed} {e : Tree} → IsCond n ts e us → Ends us → cond_at end n ts ≡ Ok (e, us)
@@ -254,19 +254,19 @@ module _ (end : ℕ) where
     complete_operand (literally {n = n} {p = p} {ts = ts} {c = c} i) f = literal_rule n p p.token ts c refl i
     complete_operand (named {n = n} {p = p} {ts = ts} {s = s} {x = x} i) f = operand_rule n p _ ts _ i refl refl (named_rule (cond_at end n) s x ts f)
     complete_operand (called {n = n} {p = p} {q = q} {ts = ts} {x = x} i j a) f =
-        operand_rule n p _ (q ∷ ts) _ i refl refl (ap (λ k. called_by end (cond_at end n) x (q ∷ ts) (open_of k ts)) j ∙ bind_at _ _ _ _ (complete_items a) refl)
+        operand_rule n p _ (q ∷ ts) _ i refl refl (ap (λ k. call_by end (cond_at end n) x (q ∷ ts) (open_of k ts)) j ∙ bind_at _ _ _ _ (complete_items a) refl)
     complete_operand (bracketed {n = n} {p = p} {q = q} {ts = ts} {us = us} i a j) f =
-        operand_rule n p _ ts _ i refl refl (bind_at _ _ _ _ (complete_cond a (ends_at_close Round q us j)) (bind_at _ _ _ _ (pass_ok (is_close Round) end q us (closed Round q j)) refl))
+        operand_rule n p _ ts _ i refl refl (bind_at _ _ _ _ (complete_cond a (ends_at_close Round q us j)) (bind_at _ _ _ _ (pass_ok (is_closing_mark Round) end q us (closed Round q j)) refl))
     complete_operand (listed {n = n} {p = p} {ts = ts} i a) f = operand_rule n p _ ts _ i refl refl (bind_at _ _ _ _ (complete_items a) refl)
 
     pub complete_items : {b : Bracket} {n : ℕ} {ts us : List Placed} {es : Trees} → IsItems b n ts es us → items_at b end (cond_at end n) ts ≡ Ok (es, us)
-    complete_items {b} (none {p = p} i) = if_true (is_close b p.token) _ _ _ (closed b p i) refl
+    complete_items {b} (none {p = p} i) = if_true (is_closing_mark b p.token) _ _ _ (closed b p i) refl
     complete_items {b} (some {n = n} {ts = ts} {us = us} {e = e} a c) =
         item_first b (cond_at end n) ts us e (begins_cond b a) (complete_cond a (more_ends c)) ∙ bind_at _ _ _ _ (complete_more c (length us) (omega arith)) refl
 
     pub complete_more : {b : Bracket} {n : ℕ} {ts us : List Placed} {es : Trees} → IsMore b n ts es us → (m : ℕ) → length ts ≤ m → more_items_at b end (cond_at end n) m ts ≡ Ok (es, us)
     complete_more {b} (last {n = n} {p = p} {ts = ts} i) m long =
-        items_none b end (cond_at end n) m (p ∷ ts) (ap (λ k. comma_of k ts) i) ∙ bind_at _ _ _ _ (pass_ok (is_close b) end p ts (closed b p i)) refl
+        items_none b end (cond_at end n) m (p ∷ ts) (ap (λ k. comma_of k ts) i) ∙ bind_at _ _ _ _ (pass_ok (is_closing_mark b) end p ts (closed b p i)) refl
     complete_more {b} (another {n = n} {p = p} {ts = ts} {us = us} i a c) m long =
         let less = shorter_cond a in
         items_more b end (cond_at end n) m (p ∷ ts) ts (omega arith) (ap (λ k. comma_of k ts) i)

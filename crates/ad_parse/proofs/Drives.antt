@@ -13,7 +13,7 @@ use Rattle.ad_token.specs.declared.token.Token.TheVariants as token
 use Rattle.ad_token.specs.declared.token.Placed.{Placed}
 use Rattle.ad_parse.specs.Operators.{prefix_of, literal_of}
 use Rattle.ad_parse.specs.Grammar.{IsCond, alone, chosen, otherwise, IsLevel, operand, single, chained, IsRests, ended, more, IsOperand, prefixed, literally, named, called, bracketed, listed, IsItems, none, some, IsMore, last, another}
-use Rattle.ad_parse.specs.Reading.{is_same_bracket, is_close}
+use Rattle.ad_parse.specs.Reader.{is_same_bracket, is_closing_mark}
 use Rattle.ad_parse.proofs.Machine.{Frame, in_round, in_items, in_yes, Mode, wanted, wanted_or_none, there, State, closed_items, begun_as, begun_by, begun, or_none, step, step_if, unless, step_within, goes, start, ends, Comes, stays, comes_on, one, shallow}
 
 pub literal_plain : (k : Token) (v : Content) → literal_of k ≡ Some v → prefix_of k ≡ None
@@ -39,18 +39,18 @@ pub same_bracket : (b : Bracket) → is_same_bracket b b ≡ true
 same_bracket Round = refl
 same_bracket Curly = refl
 
-pub close_same : (b : Bracket) → is_close b (token.Close b) ≡ true
+pub close_same : (b : Bracket) → is_closing_mark b (token.Close b) ≡ true
 close_same b = same_bracket b
 
 abbrev pub is_closing : Token → Bool
 is_closing (token.Close b) = true
 is_closing _ = false
 
-not_close : (b : Bracket) (k : Token) → is_closing k ≡ false → is_close b k ≡ false
+not_close : (b : Bracket) (k : Token) → is_closing k ≡ false → is_closing_mark b k ≡ false
 not_close b (token.Close a) h = cc
 not_close b _ h = refl
 
-pub first_same : (n d c : ℕ) (b : Bracket) (fs : List Frame) (k : Token) → is_close b k ≡ false → step_within n (wanted_or_none b d) c fs k ≡ step_within n (wanted d) c fs k
+pub first_same : (n d c : ℕ) (b : Bracket) (fs : List Frame) (k : Token) → is_closing_mark b k ≡ false → step_within n (wanted_or_none b d) c fs k ≡ step_within n (wanted d) c fs k
 first_same n d c b fs k h = ap (λ x. step_if (unless x (leb n d)) (or_none x b fs (begun d c fs k))) h
 
 pub items_close : (b : Bracket) (i c : ℕ) (fs : List Frame) → step (wanted_or_none b i) i (in_items b c i ∷ fs) (token.Close b) ≡ Some (there None, c, fs)
@@ -99,13 +99,13 @@ abbrev pub mode_of : Option State → Mode
 mode_of (Some s) = s.0
 mode_of None = there None
 
-first_taken : (n d c : ℕ) (b : Bracket) (fs gs : List Frame) (o : Option ℕ) (e : ℕ) (p : Placed) (ts us : List Placed) → is_close b p.token ≡ false → (taken : List Placed) → p ∷ ts ≡ taken ++ us → goes n (Some (wanted d, c, fs)) taken ≡ Some (there o, e, gs) → Comes n (wanted_or_none b d, c, fs) (p ∷ ts) (there o, e, gs) us
+first_taken : (n d c : ℕ) (b : Bracket) (fs gs : List Frame) (o : Option ℕ) (e : ℕ) (p : Placed) (ts us : List Placed) → is_closing_mark b p.token ≡ false → (taken : List Placed) → p ∷ ts ≡ taken ++ us → goes n (Some (wanted d, c, fs)) taken ≡ Some (there o, e, gs) → Comes n (wanted_or_none b d, c, fs) (p ∷ ts) (there o, e, gs) us
 first_taken n d c b fs gs o e p ts us h [] parts g = let z : wanted d ≡ there o = ap mode_of g in cc
 first_taken n d c b fs gs o e p ts us h (q ∷ taken) parts g =
     let same : p ≡ q = cc in
-    record { taken = q ∷ taken; parts = parts; leads = ap (λ s. goes n s taken) (first_same n d c b fs q.token (ap (λ x. is_close b x.token) (sym same) ∙ h)) ∙ g }
+    record { taken = q ∷ taken; parts = parts; leads = ap (λ s. goes n s taken) (first_same n d c b fs q.token (ap (λ x. is_closing_mark b x.token) (sym same) ∙ h)) ∙ g }
 
-pub first_comes : (n d c : ℕ) (b : Bracket) (fs gs : List Frame) (o : Option ℕ) (e : ℕ) (p : Placed) (ts us : List Placed) → is_close b p.token ≡ false → Comes n (wanted d, c, fs) (p ∷ ts) (there o, e, gs) us → Comes n (wanted_or_none b d, c, fs) (p ∷ ts) (there o, e, gs) us
+pub first_comes : (n d c : ℕ) (b : Bracket) (fs gs : List Frame) (o : Option ℕ) (e : ℕ) (p : Placed) (ts us : List Placed) → is_closing_mark b p.token ≡ false → Comes n (wanted d, c, fs) (p ∷ ts) (there o, e, gs) us → Comes n (wanted_or_none b d, c, fs) (p ∷ ts) (there o, e, gs) us
 first_comes n d c b fs gs o e p ts us h a = first_taken n d c b fs gs o e p ts us h a.taken a.parts a.leads
 
 first_item : (n d c : ℕ) (b : Bracket) (fs gs : List Frame) (o : Option ℕ) (e : ℕ) (ts us : List Placed) → is_item ts ≡ true → Comes n (wanted d, c, fs) ts (there o, e, gs) us → Comes n (wanted_or_none b d, c, fs) ts (there o, e, gs) us

@@ -10,7 +10,7 @@ use Rattle.ad_token.specs.declared.token.Token.{Token}
 use Rattle.ad_token.specs.declared.token.Token.TheVariants as token
 use Rattle.ad_token.specs.declared.token.Placed.{Placed}
 use Rattle.ad_parse.specs.Operators.{prefix_of, literal_of}
-use Rattle.ad_parse.specs.Reading.{is_same_bracket, is_close}
+use Rattle.ad_parse.specs.Reader.{is_same_bracket, is_closing_mark}
 
 -- What is open: round brackets, with the depth of the operands around them; arguments or items, with the depth of the operands
 -- around them and in them; the branch before a colon, with the depth of both branches.
@@ -92,7 +92,7 @@ gone_on o c fs _ = None
 
 abbrev pub step : Mode → ℕ → List Frame → Token → Option State
 step (wanted d) c fs k = begun d c fs k
-step (wanted_or_none b d) c fs k = or_none (is_close b k) b fs (begun d c fs k)
+step (wanted_or_none b d) c fs k = or_none (is_closing_mark b k) b fs (begun d c fs k)
 step (there o) c fs k = gone_on o c fs k
 
 -- whether an operand is wanted that has n or more around it
@@ -108,7 +108,7 @@ unless false x = x
 -- and this token is not the closing bracket that may stand there
 abbrev pub is_blocked : ℕ → Mode → Token → Bool
 is_blocked n (wanted d) k = leb n d
-is_blocked n (wanted_or_none b d) k = unless (is_close b k) (leb n d)
+is_blocked n (wanted_or_none b d) k = unless (is_closing_mark b k) (leb n d)
 is_blocked n (there o) k = false
 
 abbrev pub step_if : Bool → Option State → Option State

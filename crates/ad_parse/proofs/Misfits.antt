@@ -11,9 +11,10 @@ use Rattle.ad_token.specs.declared.token.Placed.{Placed}
 use Rattle.ad_parse.specs.declared.error.ParseError.{ParseError}
 use Rattle.ad_parse.specs.declared.error.ParseError.TheVariants as fault
 use Rattle.ad_parse.specs.Grammar.{IsCond}
-use Rattle.ad_parse.specs.Reading.{◌>>=◌, misplaced, deep_at, is_same_bracket, is_close, cond_at, whole_at, text_at}
+use Rattle.ad_parse.specs.Reader.{◌>>=◌, misplaced_token, depth_refusal_at, is_same_bracket, is_closing_mark, cond_at, whole_at, text_at}
 use Rattle.ad_parse.specs.Gives.{Fails, Gives}
-use Rattle.ad_parse.specs.Misfit.{BeginsWithin, CanGoOn, operand_there, TooDeepAfter, IsShallow, is_foreign, IsMisfit, deep, strange, FirstMisfit}
+use Rattle.ad_token.specs.Lexing.{ends_the_tokens}
+use Rattle.ad_parse.specs.Misfit.{BeginsWithin, CanGoOn, operand_there, TooDeepAfter, IsShallow, IsMisfit, deep, strange, FirstMisfit}
 use Rattle.ad_parse.proofs.Machine.{Frame, in_round, in_items, in_yes, Mode, wanted, wanted_or_none, there, State, closed, closed_items, begun, or_none, step, step_if, step_within, is_deep, unless, is_blocked, goes, start, is_end, ends, goes_none, goes_append}
 use Rattle.ad_parse.proofs.Drives.{mode_of, text_ends}
 use Rattle.ad_parse.proofs.Outcomes.{Why, Stuck, Reached, Outcome, Cond}
@@ -72,7 +73,7 @@ unless_blocks false y h = h
 
 blocked_deep : (n : ℕ) (m : Mode) (k : Token) → is_blocked n m k ≡ true → is_deep n m ≡ true
 blocked_deep n (wanted d) k h = h
-blocked_deep n (wanted_or_none b d) k h = unless_blocks (is_close b k) (leb n d) h
+blocked_deep n (wanted_or_none b d) k h = unless_blocks (is_closing_mark b k) (leb n d) h
 blocked_deep n (there o) k h = cc
 
 too_deep_after : (ts : List Placed) (s : State) → goes 65 (Some start) ts ≡ Some s → is_deep 65 s.0 ≡ true → TooDeepAfter ts
@@ -110,7 +111,7 @@ deep_item_steps n b fs o u false y d h = let z : None ≡ Some u = ap (λ x. ste
 
 deep_steps : (n : ℕ) (m : Mode) (c : ℕ) (fs : List Frame) (k : Token) (u : State) → is_deep n m ≡ true → step_within n m c fs k ≡ Some u → is_shut n u.0 ≡ false
 deep_steps n (wanted d) c fs k u h e = let z : None ≡ Some u = ap (λ x. step_if x (begun d c fs k)) (sym h) ∙ e in cc
-deep_steps n (wanted_or_none b d) c fs k u h e = deep_item_steps n b fs (begun d c fs k) u (is_close b k) (leb n d) h e
+deep_steps n (wanted_or_none b d) c fs k u h e = deep_item_steps n b fs (begun d c fs k) u (is_closing_mark b k) (leb n d) h e
 deep_steps n (there o) c fs k u h e = cc
 
 -- where the machine goes no token stands too deep
@@ -127,31 +128,31 @@ is_shallow : (ts : List Placed) (t : State) → goes 65 (Some start) ts ≡ Some
 is_shallow ts t h front p left e w = shallow_by front p left t (goes 65 (Some start) front) refl (sym (goes_append 65 (Some start) front (p ∷ left)) ∙ ap (goes 65 (Some start)) (sym e) ∙ h) w
 
 -- from where the machine is stuck to the first misfit
-foreign_deep : (k : Token) (at : ℕ) → is_foreign k ≡ true → deep_at k at ≡ misplaced k at
+foreign_deep : (k : Token) (at : ℕ) → ends_the_tokens k ≡ true → depth_refusal_at k at ≡ misplaced_token k at
 foreign_deep token.Real at h = refl
 foreign_deep token.Range at h = refl
 foreign_deep token.Bad at h = refl
 foreign_deep _ at h = cc
 
-plain_deep : (k : Token) (at : ℕ) → is_foreign k ≡ false → deep_at k at ≡ fault.TooDeep at
+plain_deep : (k : Token) (at : ℕ) → ends_the_tokens k ≡ false → depth_refusal_at k at ≡ fault.TooDeep at
 plain_deep token.Real at h = cc
 plain_deep token.Range at h = cc
 plain_deep token.Bad at h = cc
 plain_deep _ at h = refl
 
-plain_misplaced : (k : Token) (at : ℕ) → is_foreign k ≡ false → misplaced k at ≡ fault.Syntax at
+plain_misplaced : (k : Token) (at : ℕ) → ends_the_tokens k ≡ false → misplaced_token k at ≡ fault.Syntax at
 plain_misplaced token.Real at h = cc
 plain_misplaced token.Range at h = cc
 plain_misplaced _ at h = refl
 
 abbrev Reason : State → Placed → ParseError → Type 0
-Reason s p f = ((f ≡ misplaced p.token p.at) × (step s.0 s.1 s.2 p.token ≡ None) × (is_deep 65 s.0 ≡ false)) ⊎ ((f ≡ deep_at p.token p.at) × (is_blocked 65 s.0 p.token ≡ true))
+Reason s p f = ((f ≡ misplaced_token p.token p.at) × (step s.0 s.1 s.2 p.token ≡ None) × (is_deep 65 s.0 ≡ false)) ⊎ ((f ≡ depth_refusal_at p.token p.at) × (is_blocked 65 s.0 p.token ≡ true))
 
-foreign_by : (s : State) (p : Placed) (f : ParseError) → Reason s p f → is_foreign p.token ≡ true → f ≡ misplaced p.token p.at
+foreign_by : (s : State) (p : Placed) (f : ParseError) → Reason s p f → ends_the_tokens p.token ≡ true → f ≡ misplaced_token p.token p.at
 foreign_by s p f (inl w) h = w.0
 foreign_by s p f (inr w) h = w.0 ∙ foreign_deep p.token p.at h
 
-misfit_by : (before : List Placed) (s : State) (p : Placed) (f : ParseError) → goes 65 (Some start) before ≡ Some s → Reason s p f → is_foreign p.token ≡ false → IsMisfit before p f
+misfit_by : (before : List Placed) (s : State) (p : Placed) (f : ParseError) → goes 65 (Some start) before ≡ Some s → Reason s p f → ends_the_tokens p.token ≡ false → IsMisfit before p f
 misfit_by before s p f g (inl w) h = subst (λ x. IsMisfit before p x) (sym (w.0 ∙ plain_misplaced p.token p.at h)) (strange (not_too_deep before s g w.2) (dead 65 before s p g w.1))
 misfit_by before s p f g (inr w) h = subst (λ x. IsMisfit before p x) (sym (w.0 ∙ plain_deep p.token p.at h)) (deep (too_deep_after before s g (blocked_deep 65 s.0 p.token w.1)) (dead_within 65 before s p g w.1))
 
@@ -193,7 +194,7 @@ whole_stuck end ts f e (p ∷ us) k h = record {
   state = (there k.name, k.depth, []);
   left = p ∷ us;
   comes = k.comes;
-  why = inl (sym (err_is (misplaced p.token p.at) f h), top_stops k.name k.depth p.token k.found, refl);
+  why = inl (sym (err_is (misplaced_token p.token p.at) f h), top_stops k.name k.depth p.token k.found, refl);
 }
 
 read_stuck : (end : ℕ) (ts : List Placed) (f : ParseError) (r : Result (Tree × List Placed) ParseError) → Outcome end 65 Cond [] start ts r → (r >>= (λ x. whole_at end x.0 x.1)) ≡ Err f → Stuck end 65 start ts f

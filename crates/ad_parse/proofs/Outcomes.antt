@@ -11,13 +11,13 @@ use Rattle.ad_token.specs.declared.token.Placed.{Placed}
 use Rattle.ad_parse.specs.declared.error.ParseError.{ParseError}
 use Rattle.ad_parse.specs.declared.error.ParseError.TheVariants as fault
 use Rattle.ad_parse.specs.Operators.{level_of}
-use Rattle.ad_parse.specs.Reading.{◌>>=◌, misplaced, deep_at, pass, infix_of, infix_at, open_of, open_at}
+use Rattle.ad_parse.specs.Reader.{◌>>=◌, misplaced_token, depth_refusal_at, pass_mark, infix_of, infix_at, open_of, open_at}
 use Rattle.ad_parse.proofs.Machine.{Frame, there, State, closed, next_item, other_branch, called, gone_on, step, is_deep, is_blocked, is_end, Comes, stays, comes_on, comes_shorter, one}
 
 -- why the machine is stuck before these tokens
 abbrev pub Why : ℕ → ℕ → State → List Placed → ParseError → Type 0
 Why end m s [] f = (f ≡ fault.Syntax end) × (is_end s.0 s.2 ≡ false)
-Why end m s (p ∷ us) f = ((f ≡ misplaced p.token p.at) × (step s.0 s.1 s.2 p.token ≡ None) × (is_deep m s.0 ≡ false)) ⊎ ((f ≡ deep_at p.token p.at) × (is_blocked m s.0 p.token ≡ true))
+Why end m s (p ∷ us) f = ((f ≡ misplaced_token p.token p.at) × (step s.0 s.1 s.2 p.token ≡ None) × (is_deep m s.0 ≡ false)) ⊎ ((f ≡ depth_refusal_at p.token p.at) × (is_blocked m s.0 p.token ≡ true))
 
 pub record Stuck (end m : ℕ) (s : State) (ts : List Placed) (f : ParseError) : Type 0 where
   pub state : State
@@ -154,15 +154,15 @@ module _ (end m : ℕ) where
   pub does_at : {A : Type 0} {Q : Option ℕ → ℕ → List Placed → Type 0} {gs fs : List Frame} (o : Option ℕ) (c d : ℕ) (ts : List Placed) (r : Result (A × List Placed) ParseError) → d ≡ c → Does end m Q gs (there o, c, fs) ts r → Does end m Q gs (there o, d, fs) ts r
   does_at {A = A} {Q = Q} {gs = gs} {fs = fs} o c d ts r e h = subst (λ x. Does end m Q gs (there o, x, fs) ts r) (sym e) h
 
-  -- a mark that must stand behind a condition
+  -- a mark that must stand after a condition
   pass_by : {B : Type 0} {Q : Option ℕ → ℕ → List Placed → Type 0} {fs : List Frame} (o : Option ℕ) (c : ℕ) (g : Frame) (gs : List Frame) (t : State) (p : Placed) (ts : List Placed) (f : List Placed → Result (B × List Placed) ParseError) (b : Bool)
       → CantGoOn o p.token → (b ≡ true → gone_on o c (g ∷ gs) p.token ≡ Some t) → (b ≡ false → past_cond (g ∷ gs) p.token ≡ None) → Does end m Q fs t ts (f ts)
-      → Does end m Q fs (there o, c, g ∷ gs) (p ∷ ts) ((if b then Ok ts else Err (misplaced p.token p.at)) >>= f)
+      → Does end m Q fs (there o, c, g ∷ gs) (p ∷ ts) ((if b then Ok ts else Err (misplaced_token p.token p.at)) >>= f)
   pass_by o c g gs t p ts f true h goes_to none k = does_after (there o, c, g ∷ gs) t (p ∷ ts) ts (f ts) (one m (there o) c (g ∷ gs) p ts p.token t refl refl (goes_to refl)) k
-  pass_by o c g gs t p ts f false h goes_to none k = does_err (there o, c, g ∷ gs) (p ∷ ts) (misplaced p.token p.at) (inl (refl, past_is o c (g ∷ gs) p.token h ∙ none refl, refl))
+  pass_by o c g gs t p ts f false h goes_to none k = does_err (there o, c, g ∷ gs) (p ∷ ts) (misplaced_token p.token p.at) (inl (refl, past_is o c (g ∷ gs) p.token h ∙ none refl, refl))
 
   pub does_pass : {B : Type 0} {Q : Option ℕ → ℕ → List Placed → Type 0} {fs : List Frame} (mark : Token → Bool) (o : Option ℕ) (c : ℕ) (g : Frame) (gs : List Frame) (t : State) (ts : List Placed) (f : List Placed → Result (B × List Placed) ParseError)
       → Ends o ts → ((k : Token) → mark k ≡ true → gone_on o c (g ∷ gs) k ≡ Some t) → ((p : Placed) (vs : List Placed) → ts ≡ p ∷ vs → mark p.token ≡ false → past_cond (g ∷ gs) p.token ≡ None) → ((us : List Placed) → Does end m Q fs t us (f us))
-      → Does end m Q fs (there o, c, g ∷ gs) ts (pass mark end ts >>= f)
+      → Does end m Q fs (there o, c, g ∷ gs) ts (pass_mark mark end ts >>= f)
   does_pass mark o c g gs t [] f h goes_to none k = does_err (there o, c, g ∷ gs) [] (fault.Syntax end) (refl, refl)
   does_pass mark o c g gs t (p ∷ ts) f h goes_to none k = pass_by o c g gs t p ts f (mark p.token) h (goes_to p.token) (none p ts refl) (k ts)

@@ -1,4 +1,4 @@
--- Runs of bytes that pass a test, at the front and at the end of a text.
+-- Runs of bytes that pass a test, at the start and at the end of a text.
 use Rattle.std.proofs.Common.{◌≡◌, ℕ, suc, ◌+◌, ◌-◌, ◌<◌, ◌≤◌, Bool, true, false, List, [], ◌∷◌, ◌++◌, length, take, drop, get_or, reverse, refl, ap, sym, ◌∙◌, subst, arith}
 use Rattle.std.specs.List.{AllPass, prefix_len, suffix_len}
 use Rattle.std.proofs.Math.Seq.{drop-append_seam, take-append_seam, drop-length}
@@ -22,8 +22,8 @@ module _ (p : ℕ → Bool) where
   pub past_run : (xs ys : List ℕ) → AllPass p xs → (0 < length ys → p (get_or ys 0 0) ≡ false) → drop (prefix_len p (xs ++ ys)) (xs ++ ys) ≡ ys
   past_run xs ys all stops = ap (λ n. drop n (xs ++ ys)) (run_length xs ys all stops) ∙ drop-append_seam xs ys
 
-  run_back : (xs ys : List ℕ) → AllPass p ys → (0 < length xs → p (get_or xs (length xs - 1) 0) ≡ false) → suffix_len p (xs ++ ys) ≡ length (xs ++ ys) - length xs
-  run_back xs ys all stops =
+  run_at_end : (xs ys : List ℕ) → AllPass p ys → (0 < length xs → p (get_or xs (length xs - 1) 0) ≡ false) → suffix_len p (xs ++ ys) ≡ length (xs ++ ys) - length xs
+  run_at_end xs ys all stops =
       let long : length (xs ++ ys) ≡ length xs + length ys = length-append xs ys in
       suffix_len_is p (xs ++ ys) (length xs) 0 (omega arith)
       (λ k more less. subst (λ b. p b ≡ true) (sym (get_or-append_right xs ys (length xs) k 0 refl more)) (all (k - length xs) 0 (omega arith)))
@@ -32,7 +32,7 @@ module _ (p : ℕ → Bool) where
   pub before_run : (xs ys : List ℕ) → AllPass p ys → (0 < length xs → p (get_or xs (length xs - 1) 0) ≡ false) → take (length (xs ++ ys) - suffix_len p (xs ++ ys)) (xs ++ ys) ≡ xs
   before_run xs ys all stops =
       let long : length (xs ++ ys) ≡ length xs + length ys = length-append xs ys in
-      let e : length (xs ++ ys) - suffix_len p (xs ++ ys) ≡ length xs = omega (arith, run_back xs ys all stops) in
+      let e : length (xs ++ ys) - suffix_len p (xs ++ ys) ≡ length xs = omega (arith, run_at_end xs ys all stops) in
       ap (λ n. take n (xs ++ ys)) e ∙ take-append_seam xs ys
 
   pub all_append : (xs ys : List ℕ) → AllPass p xs → AllPass p ys → AllPass p (xs ++ ys)
@@ -47,19 +47,19 @@ module _ (p : ℕ → Bool) where
 
   -- ---- of any text
 
-  pub front_passes : (xs : List ℕ) → AllPass p (take (prefix_len p xs) xs)
-  front_passes xs k d less =
+  pub start_passes : (xs : List ℕ) → AllPass p (take (prefix_len p xs) xs)
+  start_passes xs k d less =
       let short : k < prefix_len p xs = omega (arith, length-prefix_len p xs) in
       subst (λ b. p b ≡ true) (sym (get_or-take (prefix_len p xs) xs k d short)) (prefix_len_passes p xs k d short)
 
-  pub front_stops : (xs : List ℕ) → 0 < length (drop (prefix_len p xs) xs) → p (get_or (drop (prefix_len p xs) xs) 0 0) ≡ false
-  front_stops xs some =
+  pub start_stops : (xs : List ℕ) → 0 < length (drop (prefix_len p xs) xs) → p (get_or (drop (prefix_len p xs) xs) 0 0) ≡ false
+  start_stops xs some =
       let less : prefix_len p xs < length xs = omega (arith, length-drop (prefix_len p xs) xs) in
       let at : prefix_len p xs + 0 ≡ prefix_len p xs = omega arith in
       subst (λ b. p b ≡ false) (sym (get_or-drop (prefix_len p xs) xs 0 0 ∙ ap (λ n. get_or xs n 0) at)) (prefix_len_stops p xs 0 less)
 
-  pub back_passes : (xs : List ℕ) → AllPass p (drop (length xs - suffix_len p xs) xs)
-  back_passes xs k d less =
+  pub end_passes : (xs : List ℕ) → AllPass p (drop (length xs - suffix_len p xs) xs)
+  end_passes xs k d less =
       let m = length xs - suffix_len p xs in
       let within : suffix_len p xs ≤ length xs = suffix_len-le-length p xs in
       let long : length (drop m xs) ≡ length xs - m = length-drop m xs in
@@ -68,9 +68,9 @@ module _ (p : ℕ → Bool) where
       let pass : p (get_or (reverse xs) j d) ≡ true = prefix_len_passes p (reverse xs) j d (omega arith) in
       subst (λ b. p b ≡ true) (get_or-reverse xs j d (omega arith) ∙ ap (λ n. get_or xs n d) there ∙ sym (get_or-drop m xs k d)) pass
 
-  pub back_stops : (xs : List ℕ) → 0 < length (take (length xs - suffix_len p xs) xs)
+  pub end_stops : (xs : List ℕ) → 0 < length (take (length xs - suffix_len p xs) xs)
       → p (get_or (take (length xs - suffix_len p xs) xs) (length (take (length xs - suffix_len p xs) xs) - 1) 0) ≡ false
-  back_stops xs some =
+  end_stops xs some =
       let m = length xs - suffix_len p xs in
       let within : suffix_len p xs ≤ length xs = suffix_len-le-length p xs in
       let long : length (take m xs) ≡ m = length-take-le m xs (omega arith) in

@@ -10,15 +10,14 @@ use Rattle.ad_tree.specs.declared.operator.Scope.TheVariants.{Bare, My, Target}
 use Rattle.ad_tree.specs.declared.operator.UnOp.{UnOp}
 use Rattle.ad_tree.specs.declared.operator.UnOp.TheVariants as un
 use Rattle.ad_tree.specs.declared.operator.BinOp.{BinOp}
-use Rattle.ad_tree.specs.declared.operator.BinOp.TheVariants as bin
 use Rattle.ad_tree.specs.Tree.{Tree, literal, reference, unary, chain, choice, or_else, call, items, Rests, no_rests, and_rest, Trees, no_trees, and_tree}
 use Rattle.ad_token.specs.declared.token.Bracket.{Bracket}
 use Rattle.ad_token.specs.declared.token.Bracket.TheVariants.{Round, Curly}
 use Rattle.ad_token.specs.declared.token.Token.{Token}
 use Rattle.ad_token.specs.declared.token.Token.TheVariants as token
-use Rattle.ad_token.specs.Canonical.{operator_text, token_text, is_name, is_proper, joined_text, joined_tokens}
+use Rattle.ad_token.specs.Canonical.{operator_text, scope_text, token_text, is_name, is_proper, joined_text, joined_tokens}
 use Rattle.ad_parse.specs.Operators.{level_of}
-use Rattle.ad_parse.specs.Canon.{scope_text, prefix_text, infix_text, rests_level, looseness, within, canon, canon_rests, canon_items, canon_more}
+use Rattle.ad_parse.specs.Canon.{prefix_text, infix_text, rests_level, looseness, canon_within, canon, canon_rests, canon_items, canon_more}
 use Rattle.ad_parse.specs.Spelling.{literal_token, prefix_token, spell_within, spell, spell_rests, spell_items, spell_more}
 
 -- a token, or a blank
@@ -100,21 +99,7 @@ prefix_same un.Plus = refl
 prefix_same un.Not = refl
 
 infix_same : (op : BinOp) (bs : List ℕ) → 32 ∷ (operator_text op ++ 32 ∷ bs) ≡ infix_text op ++ bs
-infix_same bin.Multiply bs = refl
-infix_same bin.Divide bs = refl
-infix_same bin.Modulo bs = refl
-infix_same bin.Add bs = refl
-infix_same bin.Subtract bs = refl
-infix_same bin.Less bs = refl
-infix_same bin.LessEqual bs = refl
-infix_same bin.GreaterEqual bs = refl
-infix_same bin.Greater bs = refl
-infix_same bin.Equal bs = refl
-infix_same bin.NotEqual bs = refl
-infix_same bin.Same bs = refl
-infix_same bin.NotSame bs = refl
-infix_same bin.And bs = refl
-infix_same bin.Or bs = refl
+infix_same op bs = ap (λ l. 32 ∷ l) (sym (append_assoc (operator_text op) (32 ∷ []) bs))
 
 enclosed_text : (b : Bool) (inner : Pieces → Pieces) (bs : List ℕ) → ((ps : Pieces) → joined_text (inner ps) ≡ bs ++ joined_text ps)
     → (ps : Pieces) → joined_text (enclose b inner ps) ≡ cond b bs (codes "(" ++ bs ++ codes ")") ++ joined_text ps
@@ -127,15 +112,15 @@ mutual
   text_of (reference s x) h ps = ap (λ l. l ++ joined_text ps) (name_same s x)
   text_of (unary op e) h ps =
       ap (λ l. token_text (prefix_token op) ++ l) (enclosed_text (nat_le (looseness e) 0) (pieces e) (canon e) (text_of e h) ps)
-      ∙ ap (λ l. l ++ (within 0 (looseness e) (canon e) ++ joined_text ps)) (prefix_same op)
-      ∙ sym (append_assoc (prefix_text op) (within 0 (looseness e) (canon e)) (joined_text ps))
+      ∙ ap (λ l. l ++ (canon_within 0 (looseness e) (canon e) ++ joined_text ps)) (prefix_same op)
+      ∙ sym (append_assoc (prefix_text op) (canon_within 0 (looseness e) (canon e)) (joined_text ps))
   text_of (chain e rs) h ps =
-      let first = within (rests_level rs - 1) (looseness e) (canon e) in
+      let first = canon_within (rests_level rs - 1) (looseness e) (canon e) in
       enclosed_text (nat_le (looseness e) (rests_level rs - 1)) (pieces e) (canon e) (text_of e h.0) (rest_pieces rs ps)
       ∙ ap (λ l. first ++ l) (text_of_rests rs h.1 ps)
       ∙ sym (append_assoc first (canon_rests rs) (joined_text ps))
   text_of (choice t y n) h ps =
-      let first = within 6 (looseness t) (canon t) in
+      let first = canon_within 6 (looseness t) (canon t) in
       let last = canon n ++ joined_text ps in
       enclosed_text (nat_le (looseness t) 6) (pieces t) (canon t) (text_of t h.0) (None ∷ Some token.Question ∷ None ∷ pieces y (None ∷ Some token.Colon ∷ None ∷ pieces n ps))
       ∙ ap (λ l. first ++ (codes " ? " ++ l)) (text_of y h.1 (None ∷ Some token.Colon ∷ None ∷ pieces n ps) ∙ ap (λ l. canon y ++ (codes " : " ++ l)) (text_of n h.2 ps))
@@ -144,7 +129,7 @@ mutual
       ∙ sym (append_assoc (first ++ codes " ? " ++ canon y) (codes " : ") last)
       ∙ sym (append_assoc (first ++ codes " ? " ++ canon y ++ codes " : ") (canon n) (joined_text ps))
   text_of (or_else e f) h ps =
-      let first = within 6 (looseness e) (canon e) in
+      let first = canon_within 6 (looseness e) (canon e) in
       enclosed_text (nat_le (looseness e) 6) (pieces e) (canon e) (text_of e h.0) (None ∷ Some token.OrElse ∷ None ∷ pieces f ps)
       ∙ ap (λ l. first ++ (codes " ?: " ++ l)) (text_of f h.1 ps)
       ∙ sym (append_assoc first (codes " ?: ") (canon f ++ joined_text ps))
@@ -161,7 +146,7 @@ mutual
   text_of_rests : (rs : Rests) → ProperRests rs → (ps : Pieces) → joined_text (rest_pieces rs ps) ≡ canon_rests rs ++ joined_text ps
   text_of_rests no_rests h ps = refl
   text_of_rests (and_rest op e rs) h ps =
-      let arg = within (level_of op - 1) (looseness e) (canon e) in
+      let arg = canon_within (level_of op - 1) (looseness e) (canon e) in
       ap (λ l. 32 ∷ (operator_text op ++ 32 ∷ l)) (enclosed_text (nat_le (looseness e) (level_of op - 1)) (pieces e) (canon e) (text_of e h.0) (rest_pieces rs ps) ∙ ap (λ l. arg ++ l) (text_of_rests rs h.1 ps))
       ∙ infix_same op (arg ++ (canon_rests rs ++ joined_text ps))
       ∙ sym (append_assoc (infix_text op) arg (canon_rests rs ++ joined_text ps))

@@ -2,17 +2,17 @@
 use Rattle.std.proofs.Common.{◌≡◌, ℕ, List, [], Result, Ok, Err, IfOk, sym, ap, ◌∙◌, subst}
 use Rattle.ad_tree.specs.Tree.{Tree}
 use Rattle.ad_token.specs.Lexing.{tokens_of}
-use Rattle.ad_token.specs.Canonical.{kinds_of}
+use Rattle.ad_token.specs.Canonical.{tokens_in, kinds_of}
 use Rattle.ad_token.proofs.Joined.{joined_read}
 use Rattle.ad_parse.specs.Canon.{canon}
-use Rattle.ad_parse.specs.Spelling.{tokens, spell}
+use Rattle.ad_parse.specs.Spelling.{spell}
 use Rattle.ad_parse.specs.ExprText.{IsExprText}
 use Rattle.ad_parse.proofs.Again.{spelled_again}
 use Rattle.ad_parse.proofs.Pieces.{Proper, pieces, joined_is_canon, joined_is_spelling}
 use Rattle.ad_parse.proofs.Apart.{pieces_apart}
 use Rattle.ad_parse.proofs.Proper.{what_is_read_is_proper}
 
-canon_spells : (e : Tree) → Proper e → tokens (tokens_of (canon e)) ≡ spell e
+canon_spells : (e : Tree) → Proper e → tokens_in (tokens_of (canon e)) ≡ spell e
 canon_spells e h = ap kinds_of (sym (joined_is_canon e h)) ∙ joined_read (pieces e []) (pieces_apart e h) ∙ joined_is_spelling e
 
 pub again : (text : List ℕ) (e : Tree) → IsExprText text e → IsExprText (canon e) e

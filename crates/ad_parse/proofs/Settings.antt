@@ -10,9 +10,9 @@ use Rattle.std.specs.List.{prefix_len, suffix_len}
 use Rattle.ad_tree.specs.Ad.{Attributes, lookup}
 use Rattle.ad_token.specs.Names.{is_letter, is_name_byte, name_length, leading_name, is_too_long, word_of}
 use Rattle.ad_token.specs.Lexing.{is_blank}
-use Rattle.ad_parse.specs.AdText.{past_blanks, trimmed_end, trimmed, is_skipped, is_attribute_name, around_sign, setting_from, setting, is_full_for}
+use Rattle.ad_parse.specs.AdText.{past_blanks, trimmed_end, trimmed_text, is_skipped, is_attribute_name, around_sign, setting_from, setting, is_full_for}
 use Rattle.ad_parse.specs.AdLines.{AreBlanks, IsSkipped, blank, comment, IsAttributeName, IsTrimmed, IsSetting, HasRoom}
-use Rattle.ad_parse.proofs.Passing.{past_run, run_length, before_run, all_append, past_whole, front_passes, front_stops, back_passes, back_stops}
+use Rattle.ad_parse.proofs.Passing.{past_run, run_length, before_run, all_append, past_whole, start_passes, start_stops, end_passes, end_stops}
 
 -- ---- tests
 
@@ -99,61 +99,61 @@ skipped_is line = by (get_or line 0 0 == 35) refl
 
 module _ (line name text : List ℕ) (is : IsSetting line name text) where
   abbrev tail : List ℕ
-  tail = is.behind ++ (61 ∷ (is.between ++ (text ++ is.after)))
+  tail = is.after_name ++ (61 ∷ (is.before_text ++ (text ++ is.after_text)))
 
-  whole : line ≡ is.before ++ (name ++ tail)
+  whole : line ≡ is.before_name ++ (name ++ tail)
   whole = is.parts
 
   some : 0 < length name
-  some = by name is.named.begins
+  some = by name is.name_fits.begins
     where
       by : (n : List ℕ) → is_letter (get_or n 0 0) ≡ true → 0 < length n
       by [] h = absurd (let z : false ≡ true = h in cc)
       by (b ∷ n) h = omega arith
 
   first_letter : is_letter (get_or (name ++ tail) 0 0) ≡ true
-  first_letter = subst (λ b. is_letter b ≡ true) (sym (get_or_append_left name tail 0 0 some)) is.named.begins
+  first_letter = subst (λ b. is_letter b ≡ true) (sym (get_or_append_left name tail 0 0 some)) is.name_fits.begins
 
   past : past_blanks line ≡ name ++ tail
-  past = ap past_blanks whole ∙ past_run is_blank is.before (name ++ tail) is.blanks.0 (λ _. letter_is_no_blank (get_or (name ++ tail) 0 0) first_letter)
+  past = ap past_blanks whole ∙ past_run is_blank is.before_name (name ++ tail) is.blanks.0 (λ _. letter_is_no_blank (get_or (name ++ tail) 0 0) first_letter)
 
   long : name_length (name ++ tail) ≡ length name
-  long = ap (λ b. cond b (prefix_len is_name_byte (name ++ tail)) 0) first_letter ∙ run_length is_name_byte name tail is.named.letters (λ _. blank_or_sign is.behind _ is.blanks.1)
+  long = ap (λ b. cond b (prefix_len is_name_byte (name ++ tail)) 0) first_letter ∙ run_length is_name_byte name tail is.name_fits.letters (λ _. blank_or_sign is.after_name _ is.blanks.1)
 
-  behind_name : past_blanks (drop (name_length (name ++ tail)) (name ++ tail)) ≡ 61 ∷ (is.between ++ (text ++ is.after))
-  behind_name = ap (λ n. past_blanks (drop n (name ++ tail))) long ∙ ap past_blanks (drop-append_seam name tail) ∙ past_run is_blank is.behind _ is.blanks.1 (λ _. refl)
+  after_its_name : past_blanks (drop (name_length (name ++ tail)) (name ++ tail)) ≡ 61 ∷ (is.before_text ++ (text ++ is.after_text))
+  after_its_name = ap (λ n. past_blanks (drop n (name ++ tail))) long ∙ ap past_blanks (drop-append_seam name tail) ∙ past_run is_blank is.after_name _ is.blanks.1 (λ _. refl)
 
   its_name : leading_name (name ++ tail) ≡ name
   its_name = ap (λ n. take n (name ++ tail)) long ∙ take-append_seam name tail
 
-  its_text : trimmed (is.between ++ (text ++ is.after)) ≡ text
-  its_text = by text is.trimmed
+  its_text : trimmed_text (is.before_text ++ (text ++ is.after_text)) ≡ text
+  its_text = by text is.text_fits
     where
-      by : (t : List ℕ) → IsTrimmed t → trimmed (is.between ++ (t ++ is.after)) ≡ t
-      by [] h = ap trimmed_end (past_whole is_blank (is.between ++ is.after) (all_append is_blank is.between is.after is.blanks.2 is.blanks.3))
+      by : (t : List ℕ) → IsTrimmed t → trimmed_text (is.before_text ++ (t ++ is.after_text)) ≡ t
+      by [] h = ap trimmed_end (past_whole is_blank (is.before_text ++ is.after_text) (all_append is_blank is.before_text is.after_text is.blanks.2 is.blanks.3))
       by (b ∷ t) h =
-          ap trimmed_end (past_run is_blank is.between ((b ∷ t) ++ is.after) is.blanks.2 (λ _. h.front))
-          ∙ before_run is_blank (b ∷ t) is.after is.blanks.3 (λ _. h.back)
+          ap trimmed_end (past_run is_blank is.before_text ((b ∷ t) ++ is.after_text) is.blanks.2 (λ _. h.begins))
+          ∙ before_run is_blank (b ∷ t) is.after_text is.blanks.3 (λ _. h.ends)
 
   good_name : is_attribute_name name ≡ true
   good_name =
       and_both (not (nat_eq (length name) 0)) _ (ap not (eq_false _ _ (λ e. omega (arith, some))))
-      (and_both (not (is_too_long name)) _ (ap not (within (is_too_long name) refl)) (ap (λ o. not (is_some o)) is.named.no_word))
+      (and_both (not (is_too_long name)) _ (ap not (within (is_too_long name) refl)) (ap (λ o. not (is_some o)) is.name_fits.no_word))
     where
       within : (b : Bool) → nat_lt 128 (length name) ≡ b → b ≡ false
-      within true h = absurd (omega (arith, ltb-true 128 (length name) h, is.named.short))
+      within true h = absurd (omega (arith, ltb-true 128 (length name) h, is.name_fits.short))
       within false h = refl
 
   pub setting_from_parts : setting line ≡ Some (name, text)
   setting_from_parts =
       ap setting_from past
       ∙ ap (λ n. around_sign n (past_blanks (drop (name_length (name ++ tail)) (name ++ tail)))) its_name
-      ∙ ap (around_sign name) behind_name
-      ∙ ap (λ b. cond b (Some (name, trimmed (is.between ++ (text ++ is.after)))) None) (and_both (is_attribute_name name) true good_name refl)
+      ∙ ap (around_sign name) after_its_name
+      ∙ ap (λ b. cond b (Some (name, trimmed_text (is.before_text ++ (text ++ is.after_text)))) None) (and_both (is_attribute_name name) true good_name refl)
       ∙ ap (λ t. Some (name, t)) its_text
 
   first_no_hash : get_or line 0 0 ≡ 35 → ⊥
-  first_no_hash e = by is.before is.blanks.0 (sym (ap (λ l. get_or l 0 0) whole) ∙ e)
+  first_no_hash e = by is.before_name is.blanks.0 (sym (ap (λ l. get_or l 0 0) whole) ∙ e)
     where
       blank_no_hash : (c : ℕ) → is_blank c ≡ true → c ≡ 35 → ⊥
       blank_no_hash c h g = grind (arith, nat_tests)
@@ -179,15 +179,15 @@ some_is {A} x y e = ap in_some e
     in_some None = x
     in_some (Some z) = z
 
--- what is read of the text behind the blanks
+-- what is read of the text after the blanks
 module _ (bs : List ℕ) (good : is_attribute_name (leading_name bs) ≡ true) where
   of_name : (not (nat_eq (length (leading_name bs)) 0) ≡ true) × ((not (is_too_long (leading_name bs)) ≡ true) × (not (is_some (word_of (leading_name bs))) ≡ true))
   of_name =
       let p = and_parts (not (nat_eq (length (leading_name bs)) 0)) _ good in
       (p.0, and_parts (not (is_too_long (leading_name bs))) _ p.1)
 
-  named : IsAttributeName (leading_name bs)
-  named = by (is_letter (get_or bs 0 0)) refl of_name
+  fitting_name : IsAttributeName (leading_name bs)
+  fitting_name = by (is_letter (get_or bs 0 0)) refl of_name
     where
       by : (b : Bool) → is_letter (get_or bs 0 0) ≡ b
           → (let x = take (cond b (prefix_len is_name_byte bs) 0) bs in (not (nat_eq (length x) 0) ≡ true) × ((not (is_too_long x) ≡ true) × (not (is_some (word_of x)) ≡ true)))
@@ -196,7 +196,7 @@ module _ (bs : List ℕ) (good : is_attribute_name (leading_name bs) ≡ true) w
           let x = take (prefix_len is_name_byte bs) bs in
           record {
             begins = subst (λ c. is_letter c ≡ true) (sym (get_or-take (prefix_len is_name_byte bs) bs 0 0 (omega (arith, length-prefix_len is_name_byte bs, eqb-false (length x) 0 (not_true _ h.0))))) first;
-            letters = front_passes is_name_byte bs;
+            letters = start_passes is_name_byte bs;
             short = ltb-false 128 (length x) (not_true _ h.1.0);
             no_word = no_option (word_of x) (not_true _ h.1.1);
           }
@@ -206,13 +206,13 @@ sign_first : (l : List ℕ) → get_or l 0 0 ≡ 61 → l ≡ 61 ∷ drop 1 l
 sign_first [] h = absurd (omega (arith, h))
 sign_first (b ∷ l) h = ap (λ c. c ∷ l) h
 
-abbrev bytes_behind : List ℕ → List ℕ
-bytes_behind bs = past_blanks (drop (name_length bs) bs)
+abbrev bytes_after : List ℕ → List ℕ
+bytes_after bs = past_blanks (drop (name_length bs) bs)
 
 abbrev text_of : List ℕ → List ℕ
-text_of bs = past_blanks (drop 1 (bytes_behind bs))
+text_of bs = past_blanks (drop 1 (bytes_after bs))
 
-module _ (line bs : List ℕ) (past : bs ≡ past_blanks line) (good : is_attribute_name (leading_name bs) ≡ true) (sign : get_or (bytes_behind bs) 0 0 ≡ 61) where
+module _ (line bs : List ℕ) (past : bs ≡ past_blanks line) (good : is_attribute_name (leading_name bs) ≡ true) (sign : get_or (bytes_after bs) 0 0 ≡ 61) where
   back : (q : List ℕ) → q ≡ trimmed_end q ++ drop (length q - suffix_len is_blank q) q
   back q = sym (take-append-drop (length q - suffix_len is_blank q) q)
 
@@ -222,23 +222,23 @@ module _ (line bs : List ℕ) (past : bs ≡ past_blanks line) (good : is_attrib
   read_parts : IsSetting line (leading_name bs) (trimmed_end (text_of bs))
   read_parts =
       let gap = drop (name_length bs) bs in
-      let rest = drop 1 (bytes_behind bs) in
+      let rest = drop 1 (bytes_after bs) in
       let q = text_of bs in
       record {
-        before = take (prefix_len is_blank line) line;
-        behind = take (prefix_len is_blank gap) gap;
-        between = take (prefix_len is_blank rest) rest;
-        after = drop (length q - suffix_len is_blank q) q;
+        before_name = take (prefix_len is_blank line) line;
+        after_name = take (prefix_len is_blank gap) gap;
+        before_text = take (prefix_len is_blank rest) rest;
+        after_text = drop (length q - suffix_len is_blank q) q;
         parts =
             front line ∙ ap (λ l. take (prefix_len is_blank line) line ++ l) (sym past ∙ sym (take-append-drop (name_length bs) bs)
             ∙ ap (λ l. leading_name bs ++ l) (front gap
-            ∙ ap (λ l. take (prefix_len is_blank gap) gap ++ l) (sign_first (bytes_behind bs) sign
+            ∙ ap (λ l. take (prefix_len is_blank gap) gap ++ l) (sign_first (bytes_after bs) sign
             ∙ ap (λ l. 61 ∷ l) (front rest ∙ ap (λ l. take (prefix_len is_blank rest) rest ++ l) (back q)))));
-        blanks = (front_passes is_blank line, front_passes is_blank gap, front_passes is_blank rest, back_passes is_blank q);
-        named = named bs good;
-        trimmed = record {
-          front = first_kept (length q - suffix_len is_blank q) q (first_no_blank q (front_stops is_blank rest));
-          back = last_no_blank (trimmed_end q) (back_stops is_blank q);
+        blanks = (start_passes is_blank line, start_passes is_blank gap, start_passes is_blank rest, end_passes is_blank q);
+        name_fits = fitting_name bs good;
+        text_fits = record {
+          begins = first_kept (length q - suffix_len is_blank q) q (first_no_blank q (start_stops is_blank rest));
+          ends = last_no_blank (trimmed_end q) (end_stops is_blank q);
         };
       }
 
@@ -246,9 +246,9 @@ abbrev reading_of : List ℕ → List ℕ × List ℕ
 reading_of line = (leading_name (past_blanks line), trimmed_end (text_of (past_blanks line)))
 
 pub setting_parts : (line name text : List ℕ) → setting line ≡ Some (name, text) → IsSetting line name text
-setting_parts line name text = by (is_attribute_name (leading_name (past_blanks line)) && (get_or (bytes_behind (past_blanks line)) 0 0 == 61)) refl
+setting_parts line name text = by (is_attribute_name (leading_name (past_blanks line)) && (get_or (bytes_after (past_blanks line)) 0 0 == 61)) refl
   where
-    by : (b : Bool) → (is_attribute_name (leading_name (past_blanks line)) && (get_or (bytes_behind (past_blanks line)) 0 0 == 61)) ≡ b → cond b (Some (reading_of line)) None ≡ Some (name, text) → IsSetting line name text
+    by : (b : Bool) → (is_attribute_name (leading_name (past_blanks line)) && (get_or (bytes_after (past_blanks line)) 0 0 == 61)) ≡ b → cond b (Some (reading_of line)) None ≡ Some (name, text) → IsSetting line name text
     by true e h =
         let p = and_parts (is_attribute_name (leading_name (past_blanks line))) _ e in
         subst (λ s. IsSetting line s.0 s.1) (some_is (reading_of line) (name, text) h) (read_parts line (past_blanks line) refl p.0 (eqb-true _ _ p.1))

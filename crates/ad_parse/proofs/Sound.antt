@@ -15,7 +15,7 @@ use Rattle.ad_token.specs.declared.token.Placed.{Placed}
 use Rattle.ad_parse.specs.declared.error.ParseError.{ParseError}
 use Rattle.ad_parse.specs.Operators.{level_of, prefix_of, literal_of}
 use Rattle.ad_parse.specs.Grammar.{IsCond, alone, chosen, otherwise, IsLevel, operand, single, chained, IsRests, ended, more, IsOperand, prefixed, literally, named, called, bracketed, listed, IsItems, none, some, IsMore, last, another}
-use Rattle.ad_parse.specs.Reading.{Read, ◌>>=◌, is_colon, is_close, pass, infix_of, infix_at, rests_by, rests_at, chain_of, level_at, branches_at, choice_by, choice_at, comma_of, comma_at, no_more_items_at, more_items_by, more_items_at, items_at, open_of, open_at, called_by, named_at, primary_by, literal_or, operand_by, operand_with, operand_at, cond_at}
+use Rattle.ad_parse.specs.Reader.{Read, ◌>>=◌, is_colon, is_closing_mark, pass_mark, infix_of, infix_at, rests_by, rests_at, chain_of, level_at, branches_at, choice_by, choice_at, comma_of, comma_at, no_more_items_at, more_items_by, more_items_at, items_at, open_of, open_at, call_by, name_at, primary_by, literal_or, operand_by, operand_with, operand_at, cond_at}
 
 pub bind_ok : {A B : Type 0} (r : Result A ParseError) (f : A → Result B ParseError) (y : B) → (r >>= f) ≡ Ok y → (x : A) × (r ≡ Ok x) × (f x ≡ Ok y)
 bind_ok (Ok x) f y h = (x, refl, h)
@@ -43,15 +43,15 @@ pub is_colon-is : (k : Token) → is_colon k ≡ true → k ≡ token.Colon
 is_colon-is token.Colon h = refl
 is_colon-is _ h = cc
 
-pub is_close-is : (b : Bracket) (k : Token) → is_close b k ≡ true → k ≡ token.Close b
-is_close-is Round (token.Close Round) h = refl
-is_close-is Curly (token.Close Curly) h = refl
-is_close-is Round (token.Close Curly) h = cc
-is_close-is Curly (token.Close Round) h = cc
-is_close-is b _ h = cc
+pub is_closing_mark-is : (b : Bracket) (k : Token) → is_closing_mark b k ≡ true → k ≡ token.Close b
+is_closing_mark-is Round (token.Close Round) h = refl
+is_closing_mark-is Curly (token.Close Curly) h = refl
+is_closing_mark-is Round (token.Close Curly) h = cc
+is_closing_mark-is Curly (token.Close Round) h = cc
+is_closing_mark-is b _ h = cc
 
 -- a mark that was passed stood there
-pub pass_is : (mark : Token → Bool) (end : ℕ) (ts us : List Placed) → pass mark end ts ≡ Ok us → (p : Placed) × (ts ≡ p ∷ us) × (mark p.token ≡ true)
+pub pass_is : (mark : Token → Bool) (end : ℕ) (ts us : List Placed) → pass_mark mark end ts ≡ Ok us → (p : Placed) × (ts ≡ p ∷ us) × (mark p.token ≡ true)
 pass_is mark end [] us h = cc
 pass_is mark end (p ∷ ts) us h = elim (cases_if (mark p.token) _ _ _ h) [ inl w ↦ (p, ap (λ x. p ∷ x) (ok_is ts us w.1), w.0) | inr w ↦ cc w.1 ]
 
@@ -122,7 +122,7 @@ module _ (n end : ℕ) (p : Read Tree) (sound : (ts us : List Placed) (e : Tree)
       let others = rests_sound l (level_sound l) (length a.0.1) a.0.1 b.0.1 b.0.0 b.1 in
       subst (λ y. IsLevel (suc l) n ts y.0 y.1) f (chained_or_single l n ts a.0.1 b.0.1 a.0.0 b.0.0 first others)
 
--- of what stands in brackets or behind an operator, where conditions are sound
+-- of what stands in brackets or after an operator, where conditions are sound
 module _ (n end : ℕ) (inner : Read Tree) (sound : (ts us : List Placed) (e : Tree) → inner ts ≡ Ok (e, us) → IsCond n ts e us) where
   branches_sound : (ts us vs : List Placed) (p : Placed) (t e : Tree) → IsLevel 6 (suc n) ts t (p ∷ us) → p.token ≡ token.Question → branches_at end inner t us ≡ Ok (e, vs) → IsCond (suc n) ts e vs
   branches_sound ts us vs p t e test is h =
@@ -149,8 +149,8 @@ module _ (n end : ℕ) (inner : Read Tree) (sound : (ts us : List Placed) (e : T
     last_sound : (ts us : List Placed) (es : Trees) → no_more_items_at b end ts ≡ Ok (es, us) → IsMore b n ts es us
     last_sound ts us es h =
         let a = bind_ok _ _ _ h in
-        let w = pass_is (is_close b) end ts a.0 a.1 in
-        subst (λ x. IsMore b n x es us) (sym w.1) (subst (λ y. IsMore b n (w.0 ∷ a.0) y.0 y.1) (ok_is _ _ a.2) (last (is_close-is b w.0.token w.2)))
+        let w = pass_is (is_closing_mark b) end ts a.0 a.1 in
+        subst (λ x. IsMore b n x es us) (sym w.1) (subst (λ y. IsMore b n (w.0 ∷ a.0) y.0 y.1) (ok_is _ _ a.2) (last (is_closing_mark-is b w.0.token w.2)))
 
     more_by_sound : (m : ℕ) (more_sound : (ts us : List Placed) (es : Trees) → more_items_at b end inner m ts ≡ Ok (es, us) → IsMore b n ts es us) (ts us : List Placed) (es : Trees) (o : Option (List Placed)) → comma_at ts ≡ o → more_items_by b end inner (more_items_at b end inner m) ts o ≡ Ok (es, us) → IsMore b n ts es us
     more_by_sound m more_sound ts us es None is h = last_sound ts us es h
@@ -168,15 +168,15 @@ module _ (n end : ℕ) (inner : Read Tree) (sound : (ts us : List Placed) (e : T
 
     pub items_sound : (ts us : List Placed) (es : Trees) → items_at b end inner ts ≡ Ok (es, us) → IsItems b n ts es us
     items_sound [] us es h = cc
-    items_sound (p ∷ ts) us es h = elim (cases_if (is_close b p.token) _ _ _ h) [
-      | inl w ↦ subst (λ y. IsItems b n (p ∷ ts) y.0 y.1) (ok_is _ _ w.1) (none (is_close-is b p.token w.0))
+    items_sound (p ∷ ts) us es h = elim (cases_if (is_closing_mark b p.token) _ _ _ h) [
+      | inl w ↦ subst (λ y. IsItems b n (p ∷ ts) y.0 y.1) (ok_is _ _ w.1) (none (is_closing_mark-is b p.token w.0))
       | inr w ↦
           let a = bind_ok _ _ _ w.1 in
           let d = bind_ok _ _ _ a.2 in
           subst (λ y. IsItems b n (p ∷ ts) y.0 y.1) (ok_is _ _ d.2) (some (sound (p ∷ ts) a.0.1 a.0.0 a.1) (more_sound (length a.0.1) a.0.1 d.0.1 d.0.0 d.1))
     ]
 
-  called_sound : (p : Placed) (x : List ℕ) (ts us : List Placed) (e : Tree) (o : Option (List Placed)) → p.token ≡ token.Name Bare x → open_at ts ≡ o → called_by end inner x ts o ≡ Ok (e, us) → IsOperand (suc n) (p ∷ ts) e us
+  called_sound : (p : Placed) (x : List ℕ) (ts us : List Placed) (e : Tree) (o : Option (List Placed)) → p.token ≡ token.Name Bare x → open_at ts ≡ o → call_by end inner x ts o ≡ Ok (e, us) → IsOperand (suc n) (p ∷ ts) e us
   called_sound p x ts us e None is next h = subst (λ y. IsOperand (suc n) (p ∷ ts) y.0 y.1) (ok_is _ _ h) (named is)
   called_sound p x ts us e (Some vs) is next h =
       let a = bind_ok _ _ _ h in
@@ -184,7 +184,7 @@ module _ (n end : ℕ) (inner : Read Tree) (sound : (ts us : List Placed) (e : T
       let got = called is w.2 (items_sound Round vs a.0.1 a.0.0 a.1) in
       subst (λ z. IsOperand (suc n) (p ∷ z) e us) (sym w.1) (subst (λ y. IsOperand (suc n) (p ∷ w.0 ∷ vs) y.0 y.1) (ok_is _ _ a.2) got)
 
-  named_sound : (p : Placed) (s : Scope) (x : List ℕ) (ts us : List Placed) (e : Tree) → p.token ≡ token.Name s x → named_at end inner s x ts ≡ Ok (e, us) → IsOperand (suc n) (p ∷ ts) e us
+  named_sound : (p : Placed) (s : Scope) (x : List ℕ) (ts us : List Placed) (e : Tree) → p.token ≡ token.Name s x → name_at end inner s x ts ≡ Ok (e, us) → IsOperand (suc n) (p ∷ ts) e us
   named_sound p Bare x ts us e is h = called_sound p x ts us e (open_at ts) is refl h
   named_sound p My x ts us e is h = subst (λ y. IsOperand (suc n) (p ∷ ts) y.0 y.1) (ok_is _ _ h) (named is)
   named_sound p Target x ts us e is h = subst (λ y. IsOperand (suc n) (p ∷ ts) y.0 y.1) (ok_is _ _ h) (named is)
@@ -194,9 +194,9 @@ module _ (n end : ℕ) (inner : Read Tree) (sound : (ts us : List Placed) (e : T
   primary_sound p (token.Open Round) ts us e is h =
       let a = bind_ok _ _ _ h in
       let d = bind_ok _ _ _ a.2 in
-      let w = pass_is (is_close Round) end a.0.1 d.0 d.1 in
+      let w = pass_is (is_closing_mark Round) end a.0.1 d.0 d.1 in
       let found = subst (λ x. IsCond n ts a.0.0 x) w.1 (sound ts a.0.1 a.0.0 a.1) in
-      subst (λ y. IsOperand (suc n) (p ∷ ts) y.0 y.1) (ok_is _ _ d.2) (bracketed is found (is_close-is Round w.0.token w.2))
+      subst (λ y. IsOperand (suc n) (p ∷ ts) y.0 y.1) (ok_is _ _ d.2) (bracketed is found (is_closing_mark-is Round w.0.token w.2))
   primary_sound p (token.Open Curly) ts us e is h =
       let a = bind_ok _ _ _ h in
       subst (λ y. IsOperand (suc n) (p ∷ ts) y.0 y.1) (ok_is _ _ a.2) (listed is (items_sound Curly ts a.0.1 a.0.0 a.1))

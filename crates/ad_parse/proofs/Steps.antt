@@ -14,14 +14,14 @@ use Rattle.ad_parse.specs.declared.error.ParseError.{ParseError}
 use Rattle.ad_parse.specs.declared.error.ParseError.TheVariants as fault
 use Rattle.ad_parse.specs.Operators.{prefix_of, level_of}
 use Rattle.ad_parse.specs.Gives.{Fails}
-use Rattle.ad_parse.specs.Reading.{Read, ◌>>=◌, too_deep, infix_at, infix_of, rests_by, more_items_by, chain_of, chain_from, choice_at, comma_of, rests_at, more_items_at, operand_at, operand_by, operand_with, prefixed_at, primary_at, comma_at, pass, is_close, cond_at, level_at}
+use Rattle.ad_parse.specs.Reader.{Read, ◌>>=◌, depth_refusal, infix_at, infix_of, rests_by, more_items_by, chain_of, chain_from, choice_at, comma_of, rests_at, more_items_at, operand_at, operand_by, operand_with, prefix_at, primary_at, comma_at, pass_mark, is_closing_mark, cond_at, level_at}
 
 -- one step of the recursion
 abbrev pub operand_body : ℕ → ℕ → Read Tree
-operand_body end n ts = if nat_eq n 0 then Err (too_deep end ts) else operand_with end (operand_at end (n - 1)) (cond_at end (n - 1)) ts
+operand_body end n ts = if nat_eq n 0 then Err (depth_refusal end ts) else operand_with end (operand_at end (n - 1)) (cond_at end (n - 1)) ts
 
 abbrev pub cond_body : ℕ → ℕ → Read Tree
-cond_body end n ts = if nat_eq n 0 then Err (too_deep end ts) else level_at (operand_at end n) 6 ts >>= (λ x. choice_at end (cond_at end (n - 1)) x.0 x.1)
+cond_body end n ts = if nat_eq n 0 then Err (depth_refusal end ts) else level_at (operand_at end n) 6 ts >>= (λ x. choice_at end (cond_at end (n - 1)) x.0 x.1)
 
 abbrev pub level_body : Read Tree → ℕ → Read Tree
 level_body operand l ts = if nat_eq l 0 then operand ts else level_at operand (l - 1) ts >>= (λ x. chain_from (level_at operand (l - 1)) l x.0 x.1)
@@ -72,7 +72,7 @@ unfolding level_at
 level_is p zero ts = refl
 level_is p (suc l) ts = let e : suc l - 1 ≡ l = omega arith in rw (e, eqb-suc-zero) refl
 
-pub operand_prefixed : (end n : ℕ) (p : Placed) (ts : List Placed) (op : UnOp) → 0 < n → prefix_of p.token ≡ Some op → operand_at end n (p ∷ ts) ≡ prefixed_at (operand_at end (n - 1)) op ts
+pub operand_prefixed : (end n : ℕ) (p : Placed) (ts : List Placed) (op : UnOp) → 0 < n → prefix_of p.token ≡ Some op → operand_at end n (p ∷ ts) ≡ prefix_at (operand_at end (n - 1)) op ts
 operand_prefixed end zero p ts op pos h = absurd (omega arith)
 operand_prefixed end (suc n) p ts op pos h =
     let e : suc n - 1 ≡ n = omega arith in
@@ -174,7 +174,7 @@ after_trees-join es e (Err f) = refl
 after_trees-join es e (Ok y) = ap (λ z. Ok (z, y.1)) (sym (join_trees-append es e y.0))
 
 module _ (b : Bracket) (end : ℕ) (p : Read Tree) where
-  pub items_none : (n : ℕ) (ts : List Placed) → comma_at ts ≡ None → more_items_at b end p n ts ≡ (pass (is_close b) end ts >>= (λ us. Ok (no_trees, us)))
+  pub items_none : (n : ℕ) (ts : List Placed) → comma_at ts ≡ None → more_items_at b end p n ts ≡ (pass_mark (is_closing_mark b) end ts >>= (λ us. Ok (no_trees, us)))
   unfolding more_items_at
   items_none zero ts h = refl
   items_none (suc n) ts h = ap (more_items_by b end p (more_items_at b end p n) ts) h
@@ -194,8 +194,10 @@ module _ (b : Bracket) (end : ℕ) (p : Read Tree) (n : ℕ) (ts : List Placed) 
   pub items_fail : (us : List Placed) → comma_at ts ≡ Some us → (f : ParseError) → p us ≡ Err f → total ≡ Err f
   items_fail us h f got = so_far ∙ ap (after_trees es) (more_items us h ∙ ap (λ r. r >>= (λ x. more_items_at b end p (n - 1) x.1 >>= (λ y. Ok (and_tree x.0 y.0, y.1)))) got)
 
-  pub items_end : (us : List Placed) → comma_at ts ≡ None → pass (is_close b) end ts ≡ Ok us → total ≡ Ok (trees_of es, us)
+  pub items_end : (us : List Placed) → comma_at ts ≡ None → pass_mark (is_closing_mark b) end ts ≡ Ok us → total ≡ Ok (trees_of es, us)
   items_end us h got = so_far ∙ ap (after_trees es) (items_none b end p n ts h ∙ ap (λ r. r >>= (λ us. Ok (no_trees, us))) got) ∙ ap (λ z. Ok (z, us)) (join_trees-none es)
 
-  pub items_open : comma_at ts ≡ None → (f : ParseError) → pass (is_close b) end ts ≡ Err f → total ≡ Err f
+  pub items_open : comma_at ts ≡ None → (f : ParseError) → pass_mark (is_closing_mark b) end ts ≡ Err f → total ≡ Err f
   items_open h f got = so_far ∙ ap (after_trees es) (items_none b end p n ts h ∙ ap (λ r. r >>= (λ us. Ok (no_trees, us))) got)
+
+pub ruleset operand_steps = (operand_is, operand_prefixed, operand_primary)

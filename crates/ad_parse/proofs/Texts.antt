@@ -7,7 +7,7 @@ use Rattle.ad_parse.specs.declared.error.ParseError.{ParseError}
 use Rattle.ad_parse.specs.declared.error.ParseError.TheVariants as fault
 use Rattle.ad_parse.specs.Canon.{canon}
 use Rattle.ad_parse.specs.Grammar.{IsText}
-use Rattle.ad_parse.specs.Reading.{◌>>=◌, text_at}
+use Rattle.ad_parse.specs.Reader.{◌>>=◌, text_at}
 use Rattle.ad_parse.specs.ExprText.{IsExprText, IsRefused, long, misfit, prints_long, when_short, expression_at}
 use Rattle.ad_parse.specs.Gives.{Gives, Fails}
 use Rattle.ad_parse.proofs.Sound.{ok_is}

@@ -1,12 +1,16 @@
--- What it means that a text says an ad: each line is skipped, or sets an attribute for which there is room.
+-- What it means that a text says an ad: each line is skipped, or sets an attribute for which there
+-- is room.
+use Rattle.ad_value.specs.Bytes.{code}
 use Rattle.std.specs.Prelude.{◌≡◌, ◌⊎◌, ℕ, ◌-◌, ◌<◌, ◌≤◌, true, false, List, [], ◌∷◌, ◌++◌, length, codes, slice_index, None, IsSome}
 use Rattle.std.specs.List.{AllPass}
+use Rattle.ad_tree.specs.declared.ad.TheConstants.{MAX_ATTRIBUTES}
 use Rattle.ad_tree.specs.Tree.{Tree}
 use Rattle.ad_tree.specs.Ad.{Attributes, lookup, with_attribute}
+use Rattle.ad_token.specs.declared.names.TheConstants.{MAX_NAME}
 use Rattle.ad_token.specs.Names.{is_letter, is_name_byte, word_of}
 use Rattle.ad_token.specs.Lexing.{is_blank}
 use Rattle.ad_parse.specs.ExprText.{IsExprText}
-use Rattle.ad_parse.specs.AdText.{lines}
+use Rattle.ad_parse.specs.AdText.{lines_of_text}
 
 abbrev pub AreBlanks : List ℕ → Type 0
 AreBlanks bs = AllPass is_blank bs
@@ -14,41 +18,46 @@ AreBlanks bs = AllPass is_blank bs
 -- a line of blanks alone, or one that begins with `#`
 pub data IsSkipped (line : List ℕ) : Type 0 where
   blank : AreBlanks line → IsSkipped line
-  comment : slice_index line 0 ≡ 35 → IsSkipped line
+  comment : slice_index line 0 ≡ code "#" → IsSkipped line
 
--- a letter or `_`, then letters, digits and `_`, at most 128 bytes, and no word of expressions
+-- a letter or `_`, then letters, digits and `_`, not too long, and no word of expressions
 pub record IsAttributeName (name : List ℕ) : Type 0 where
   pub begins : is_letter (slice_index name 0) ≡ true
   pub letters : AllPass is_name_byte name
-  pub short : length name ≤ 128
+  pub short : length name ≤ MAX_NAME
   pub no_word : word_of name ≡ None
 
 -- a text that neither begins nor ends with a blank
 pub record IsTrimmed (text : List ℕ) : Type 0 where
-  pub front : is_blank (slice_index text 0) ≡ false
-  pub back : is_blank (slice_index text (length text - 1)) ≡ false
+  pub begins : is_blank (slice_index text 0) ≡ false
+  pub ends : is_blank (slice_index text (length text - 1)) ≡ false
 
 -- `Name = expression`, with blanks anywhere round the name and the expression
 pub record IsSetting (line name text : List ℕ) : Type 0 where
-  pub before : List ℕ
-  pub behind : List ℕ
-  pub between : List ℕ
-  pub after : List ℕ
-  pub parts : line ≡ before ++ (name ++ (behind ++ (codes "=" ++ (between ++ (text ++ after)))))
-  pub blanks : AreBlanks before × AreBlanks behind × AreBlanks between × AreBlanks after
-  pub named : IsAttributeName name
-  pub trimmed : IsTrimmed text
+  pub before_name : List ℕ
+  pub after_name : List ℕ
+  pub before_text : List ℕ
+  pub after_text : List ℕ
+  pub parts : line
+      ≡ before_name
+      ++ (name ++ (after_name ++ (codes "=" ++ (before_text ++ (text ++ after_text)))))
+  pub blanks : AreBlanks before_name × AreBlanks after_name
+      × AreBlanks before_text × AreBlanks after_text
+  pub name_fits : IsAttributeName name
+  pub text_fits : IsTrimmed text
 
--- the name is there, or may be the next of 256
+-- the name is there, or may be one more
 abbrev pub HasRoom : List ℕ → Attributes → Type 0
-HasRoom name ad = IsSome (lookup name ad) ⊎ (length ad < 256)
+HasRoom name ad = IsSome (lookup name ad) ⊎ (length ad < MAX_ATTRIBUTES)
 
 -- the lines make of an ad another
 pub data AreAdLines : Attributes → List (List ℕ) → Attributes → Type 0 where
   ended : {ad : Attributes} → AreAdLines ad [] ad
-  skip : {ad new : Attributes} {line : List ℕ} {more : List (List ℕ)} → IsSkipped line → AreAdLines ad more new → AreAdLines ad (line ∷ more) new
+  skip : {ad new : Attributes} {line : List ℕ} {more : List (List ℕ)}
+      → IsSkipped line → AreAdLines ad more new → AreAdLines ad (line ∷ more) new
   set : {ad new : Attributes} {line name text : List ℕ} {e : Tree} {more : List (List ℕ)}
-      → IsSetting line name text → IsExprText text e → HasRoom name ad → AreAdLines (with_attribute name e ad) more new → AreAdLines ad (line ∷ more) new
+      → IsSetting line name text → IsExprText text e → HasRoom name ad
+      → AreAdLines (with_attribute name e ad) more new → AreAdLines ad (line ∷ more) new
 
 abbrev pub IsAdText : List ℕ → Attributes → Type 0
-IsAdText text ad = AreAdLines [] (lines text) ad
+IsAdText text ad = AreAdLines [] (lines_of_text text) ad

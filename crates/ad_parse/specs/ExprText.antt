@@ -4,27 +4,36 @@ use Rattle.ad_tree.specs.Tree.{Tree}
 use Rattle.ad_token.specs.Lexing.{tokens_of}
 use Rattle.ad_parse.specs.declared.error.ParseError.{ParseError}
 use Rattle.ad_parse.specs.declared.error.ParseError.TheVariants as fault
+use Rattle.ad_parse.specs.declared.expression.TheConstants.{LONGEST}
 use Rattle.ad_parse.specs.Canon.{canon}
 use Rattle.ad_parse.specs.Grammar.{IsText}
 use Rattle.ad_parse.specs.Misfit.{FirstMisfit}
-use Rattle.ad_parse.specs.Reading.{◌>>=◌, text_at}
+use Rattle.ad_parse.specs.Reader.{◌>>=◌, text_at}
 
 -- the text's tokens spell the expression, and neither text is too long
 pub record IsExprText (text : List ℕ) (e : Tree) : Type 0 where
-  pub short : length text ≤ 8192
+  pub short : length text ≤ LONGEST
   pub spelled : IsText (tokens_of text) e
-  pub prints_short : length (canon e) ≤ 8192
+  pub prints_short : length (canon e) ≤ LONGEST
 
--- The text is too long, or has a first token, or an end, where it leaves the grammar, or its canonical text is too long.
+-- The text is too long, or has a first token, or an end, where it leaves the grammar, or its
+-- canonical text is too long.
 pub data IsRefused (text : List ℕ) : ParseError → Type 0 where
-  long : 8192 < length text → IsRefused text (fault.TooLong (length text))
-  misfit : {f : ParseError} → length text ≤ 8192 → FirstMisfit (length text) (tokens_of text) f → IsRefused text f
-  prints_long : {e : Tree} → length text ≤ 8192 → IsText (tokens_of text) e → 8192 < length (canon e) → IsRefused text (fault.TooLong (length (canon e)))
+  long : LONGEST < length text → IsRefused text (fault.TooLong (length text))
+  misfit : {f : ParseError}
+      → length text ≤ LONGEST → FirstMisfit (length text) (tokens_of text) f → IsRefused text f
+  prints_long : {e : Tree}
+      → length text ≤ LONGEST → IsText (tokens_of text) e → LONGEST < length (canon e)
+      → IsRefused text (fault.TooLong (length (canon e)))
 
 -- ---- the same as a function: what reading gives
 
 abbrev pub when_short : Tree → Result Tree ParseError
-when_short e = if nat_lt 8192 (length (canon e)) then Err (fault.TooLong (length (canon e))) else Ok e
+when_short e =
+    if nat_lt LONGEST (length (canon e)) then Err (fault.TooLong (length (canon e)))
+    else Ok e
 
 abbrev pub expression_at : List ℕ → Result Tree ParseError
-expression_at text = if nat_lt 8192 (length text) then Err (fault.TooLong (length text)) else text_at (length text) (tokens_of text) >>= when_short
+expression_at text =
+    if nat_lt LONGEST (length text) then Err (fault.TooLong (length text))
+    else text_at (length text) (tokens_of text) >>= when_short

@@ -1,9 +1,13 @@
 -- A function of the program gives what reading gives, unless memory runs out.
-use Rattle.std.specs.Prelude.{◌≡◌, List, Result, Ok, Err}
+use Rattle.std.specs.Prelude.{◌≡◌, ◌≤◌, List, length, Result, Ok, Err, IfOk}
 use Rattle.std.specs.Borrow.{Bor}
+use Rattle.ad_tree.specs.declared.tree.Expr.{Expr}
+use Rattle.ad_tree.specs.declared.tree.ExprList.{ExprList}
+use Rattle.ad_tree.specs.Tree.{Tree, Trees, tree, trees, trees_of}
 use Rattle.ad_token.specs.declared.token.Placed.{Placed}
 use Rattle.ad_parse.specs.declared.error.ParseError.{ParseError}
 use Rattle.ad_parse.specs.declared.error.ParseError.TheVariants.{TooLong, Real, Range, TooDeep, Syntax, Memory}
+use Rattle.ad_parse.specs.Reader.{ReadResult}
 
 abbrev pub Fails : {Y : Type 0} → ParseError → Result Y ParseError → Type 0
 Fails Memory read = Unit {0}
@@ -17,6 +21,21 @@ abbrev pub Gives : {X Y : Type 0} → (X → Y) → Result X ParseError → Resu
 Gives view (Ok x) read = read ≡ Ok (view x)
 Gives view (Err e) read = Fails e read
 
+-- a thing and the tokens after it, lent
+abbrev pub Lent : Type 0 → Type 0
+Lent X = Result (X × Bor (List Placed)) ParseError
+
+abbrev pub GivesTree : Lent Expr → ReadResult Tree → Type 0
+GivesTree read given = Gives (λ x. (tree x.0, x.1.now)) read given
+
+abbrev pub GivesTrees : Lent ExprList → ReadResult Trees → Type 0
+GivesTrees read given = Gives (λ x. (trees_of (trees x.0), x.1.now)) read given
+
+-- no more tokens are left than there were
+abbrev pub LeavesWithin : {X : Type 0} → List Placed → Lent X → Type 0
+LeavesWithin ts read = IfOk read (λ x. length x.1.now ≤ length ts)
+
+-- the tokens after a mark
 abbrev pub Passes : Result (Bor (List Placed)) ParseError → Result (List Placed) ParseError → Type 0
 Passes (Ok x) read = read ≡ Ok x.now
 Passes (Err e) read = read ≡ Err e

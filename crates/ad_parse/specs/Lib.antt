@@ -1,6 +1,6 @@
 pub mod Operators
 pub mod Grammar
-pub mod Reading
+pub mod Reader
 pub mod Gives
 pub mod Misfit
 pub mod Canon

@@ -1,4 +1,5 @@
--- Operators and literals among tokens, and how tightly operators hold their operands (HTCondor manual, "ClassAd syntax").
+-- Operators and literals among tokens, and how tightly operators hold their operands (HTCondor
+-- manual, "ClassAd syntax").
 use Rattle.std.specs.Prelude.{ℕ, Option, Some, None, true, false}
 use Rattle.ad_value.specs.Content.{Content, undefined, error, truth, integer, text}
 use Rattle.ad_tree.specs.declared.operator.UnOp.{UnOp}

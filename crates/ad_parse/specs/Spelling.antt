@@ -1,5 +1,5 @@
 -- The tokens of a tree's canonical text.
-use Rattle.std.specs.Prelude.{ℕ, ◌-◌, nat_le, List, [], ◌∷◌, ◌++◌, map, true, false, if◌then◌else◌}
+use Rattle.std.specs.Prelude.{ℕ, ◌-◌, nat_le, List, [], ◌∷◌, ◌++◌, true, false, if◌then◌else◌}
 use Rattle.ad_value.specs.Content.{Content, undefined, error, truth, integer, text}
 use Rattle.ad_value.specs.Content as value
 use Rattle.ad_tree.specs.declared.operator.Scope.TheVariants.{Bare}
@@ -11,13 +11,9 @@ use Rattle.ad_token.specs.declared.token.Bracket.{Bracket}
 use Rattle.ad_token.specs.declared.token.Bracket.TheVariants.{Round, Curly}
 use Rattle.ad_token.specs.declared.token.Token.{Token}
 use Rattle.ad_token.specs.declared.token.Token.TheVariants as token
-use Rattle.ad_token.specs.declared.token.Placed.{Placed}
+use Rattle.ad_parse.specs.declared.levels.TheConstants.{LOOSEST}
 use Rattle.ad_parse.specs.Operators.{level_of}
 use Rattle.ad_parse.specs.Canon.{looseness, rests_level}
-
--- the tokens, wherever they stand
-abbrev pub tokens : List Placed → List Token
-tokens ts = map (λ p. p.token) ts
 
 -- no token is a list
 abbrev pub literal_token : Content → Token
@@ -44,15 +40,19 @@ abbrev mutual
   spell (reference s x) = token.Name s x ∷ []
   spell (unary op e) = prefix_token op ∷ spell_within 0 (looseness e) (spell e)
   spell (chain e rs) = spell_within (rests_level rs - 1) (looseness e) (spell e) ++ spell_rests rs
-  spell (choice t y n) = spell_within 6 (looseness t) (spell t) ++ (token.Question ∷ (spell y ++ (token.Colon ∷ spell n)))
-  spell (or_else e f) = spell_within 6 (looseness e) (spell e) ++ (token.OrElse ∷ spell f)
+  spell (choice t y n) =
+      spell_within LOOSEST (looseness t) (spell t)
+      ++ (token.Question ∷ (spell y ++ (token.Colon ∷ spell n)))
+  spell (or_else e f) =
+      spell_within LOOSEST (looseness e) (spell e) ++ (token.OrElse ∷ spell f)
   spell (call x es) = token.Name Bare x ∷ token.Open Round ∷ spell_items Round es
   spell (items es) = token.Open Curly ∷ spell_items Curly es
 
   -- the operators of a chain and their operands
   pub spell_rests : Rests → List Token
   spell_rests no_rests = []
-  spell_rests (and_rest op e rs) = token.Op op ∷ (spell_within (level_of op - 1) (looseness e) (spell e) ++ spell_rests rs)
+  spell_rests (and_rest op e rs) =
+      token.Op op ∷ (spell_within (level_of op - 1) (looseness e) (spell e) ++ spell_rests rs)
 
   -- items and the closing bracket
   pub spell_items : Bracket → Trees → List Token

@@ -6,17 +6,18 @@ ghost use Rattle.std.specs.Option.{option_map};
 ghost use Rattle.ad_tree.specs.Tree.{tree};
 ghost use Rattle.ad_token.specs.Lexing.{is_blank};
 ghost use Rattle.ad_parse.specs.ExprText.{expression_at};
-ghost use Rattle.ad_parse.specs.AdText.{GivesAd, ad_at, with_line, with_expression, unless_refused, at_line, is_skipped, is_attribute_name, setting, setting_from, around_sign, past_blanks, trimmed_end, trimmed};
+ghost use Rattle.ad_parse.specs.AdText.{GivesAd, ad_at, with_line, with_expression, unless_refused, at_line, is_skipped, is_attribute_name, setting, setting_from, around_sign, past_blanks, trimmed_end, trimmed_text};
 
 use crate::error::{AdError, ParseError};
-use crate::expression::read;
+use crate::expression::read_text;
 use ad_token::{MAX_NAME, is_blank, name_length, word};
 use ad_tree::{Ad, Expr, SetError};
 use std::alloc::Global;
 
-/// The ad that a text says, with one attribute, `Name = expression`, a line; lines of blanks alone and lines that begin with `#` are
-/// skipped (HTCondor manual, "ClassAd syntax"). A later line of a name replaces the expression of the earlier one. Takes time that
-/// grows as the text.
+/// The ad that a text says, with one attribute, `Name = expression`, a line; lines of blanks alone
+/// and lines that begin with `#` are skipped (HTCondor manual, "ClassAd syntax"). A later line of a
+/// name replaces the expression of the earlier one. Computes in O(bytes of the text and of the
+/// canonical texts) where names do not collide.
 pub fn parse_ad(alloc: Global, text: &str) -> Result<Ad, AdError>
     ensures { GivesAd (λ a. a) result (ad_at text.now) }
 {
@@ -50,16 +51,20 @@ fn read_setting(
     name: &str,
     text: &str,
 ) -> Result<(), AdError>
-    ensures { GivesAd (λ _. ad.new) result (unless_refused (at_line number (expression_at text.now)) (with_expression number ad.old name.now)) }
+    ensures { GivesAd (λ _. ad.new) result (
+        unless_refused
+        (at_line number (expression_at text.now))
+        (with_expression number ad.old name.now)) }
 {
     let expr = read_expr(alloc, number, text)?;
-    set(alloc, ad, number, name, expr)
+    set_attribute(alloc, ad, number, name, expr)
 }
 
+// The expression that the text of a line says.
 fn read_expr(alloc: Global, number: u32, text: &str) -> Result<Expr, AdError>
     ensures { GivesAd tree result (at_line number (expression_at text.now)) }
 {
-    match read(alloc, text) {
+    match read_text(alloc, text) {
         Ok(expr) => Ok(expr),
         Err(ParseError::Memory) => Err(AdError::Memory),
         Err(error) => Err(AdError::Expr {
@@ -69,7 +74,14 @@ fn read_expr(alloc: Global, number: u32, text: &str) -> Result<Expr, AdError>
     }
 }
 
-fn set(alloc: Global, ad: &mut Ad, number: u32, name: &str, expr: Expr) -> Result<(), AdError>
+// Puts the expression of a line under its name.
+fn set_attribute(
+    alloc: Global,
+    ad: &mut Ad,
+    number: u32,
+    name: &str,
+    expr: Expr,
+) -> Result<(), AdError>
     ensures { GivesAd (λ _. ad.new) result (with_expression number ad.old name.now (tree expr)) }
 {
     match ad.set(alloc, name, expr) {
@@ -108,7 +120,7 @@ fn around_sign<'a>(name: &'a str, after: &'a str) -> Option<(&'a str, &'a str)>
     if !is_attribute_name(name) || !after.starts_with('=') {
         return None;
     }
-    Some((name, trimmed(&after[1..])))
+    Some((name, trimmed_text(&after[1..])))
 }
 
 // Whether an attribute may have this name.
@@ -118,36 +130,36 @@ fn is_attribute_name(name: &str) -> bool
     !name.is_empty() && name.len() <= MAX_NAME && word(name).is_none()
 }
 
-fn trimmed(text: &str) -> &str
-    ensures { result.now ≡ trimmed text.now }
+fn trimmed_text(text: &str) -> &str
+    ensures { result.now ≡ trimmed_text text.now }
 {
     trimmed_end(past_blanks(text))
 }
 
-#[tactic(auto, using(crate::proofs::Blanks::front_boundary))]
+#[tactic(auto, using(crate::proofs::Blanks::start_boundary))]
 fn past_blanks(text: &str) -> &str
     ensures { result.now ≡ past_blanks text.now }
 {
-    &text[blanks_before(text.as_bytes())..]
+    &text[blanks_at_start(text.as_bytes())..]
 }
 
-#[tactic(auto, using(crate::proofs::Blanks::back_boundary))]
+#[tactic(auto, using(crate::proofs::Blanks::end_boundary))]
 fn trimmed_end(text: &str) -> &str
     ensures { result.now ≡ trimmed_end text.now }
 {
-    &text[..text.len() - blanks_behind(text.as_bytes())]
+    &text[..text.len() - blanks_at_end(text.as_bytes())]
 }
 
-// How many blanks stand at the front.
-fn blanks_before(bytes: &[u8]) -> usize
+// How many blanks a text begins with.
+fn blanks_at_start(bytes: &[u8]) -> usize
     ensures value { result ≡ prefix_len is_blank bytes.now }
     ensures within { result ≤ length bytes.now }
 {
     bytes.iter().take_while(|b| is_blank(**b)).count()
 }
 
-// How many blanks stand at the end.
-fn blanks_behind(bytes: &[u8]) -> usize
+// How many blanks a text ends with.
+fn blanks_at_end(bytes: &[u8]) -> usize
     ensures value { result ≡ suffix_len is_blank bytes.now }
     ensures within { result ≤ length bytes.now }
 {

@@ -2,7 +2,7 @@ use ad_value::Memory;
 use std::alloc::{AllocError, AllocFailed};
 use thiserror::Error;
 
-/// Why a text is no expression. Offsets count bytes from 0.
+/// Why a text is no expression. Offsets and lengths count bytes, offsets from 0.
 #[derive(Clone, Copy, Debug, PartialEq, Eq, Error)]
 pub enum ParseError {
     /// The text, or its canonical text, is longer than 8,192 bytes.
@@ -14,7 +14,7 @@ pub enum ParseError {
     /// An integer above 9223372036854775807.
     #[error("an integer out of range at {at}")]
     Range { at: u64 },
-    /// A token that stands more than 64 deep in brackets and behind operators.
+    /// A token that stands more than 64 deep in brackets and after operators.
     #[error("nested too deep at {at}")]
     TooDeep { at: u64 },
     /// The first token, or the end, after which no expression can go on.

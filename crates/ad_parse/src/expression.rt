@@ -1,6 +1,6 @@
 // From a text to an expression.
 
-ghost use Rattle.std.specs.Prelude.{◌≡◌, ◌≢◌, ◌⊎◌, ℕ, List, IfOk, IfErr, Ok, Err};
+ghost use Rattle.std.specs.Prelude.{◌≢◌, IfOk, IfErr, Ok, Err};
 ghost use Rattle.ad_tree.specs.Tree.{Tree, tree};
 ghost use Rattle.ad_parse.specs.declared.error.ParseError.{ParseError};
 ghost use Rattle.ad_parse.specs.ExprText.{IsExprText, IsRefused, expression_at, when_short};
@@ -16,7 +16,8 @@ use std::alloc::Global;
 // How many bytes a text and a canonical text may have.
 const LONGEST: usize = 8192;
 
-/// The expression that a text says (HTCondor manual, "ClassAd syntax"). Takes time that grows as the text and its canonical text.
+/// The expression that a text says (HTCondor manual, "ClassAd syntax"). Computes in O(bytes of the
+/// text and of its canonical text).
 pub fn parse_expr(alloc: Global, text: &str) -> Result<Expr, ParseError>
     // What is read is what the text says.
     ensures found { IfOk result (λ e. IsExprText text.now (tree e)) }
@@ -27,11 +28,11 @@ pub fn parse_expr(alloc: Global, text: &str) -> Result<Expr, ParseError>
     // A text that has a cause is refused for it, unless memory runs out.
     ensures exact { (f : ParseError) → IsRefused text.now f → Gives tree result (Err f) }
 {
-    read(alloc, text)
+    read_text(alloc, text)
 }
 
 // The same, as a function of the text.
-pub(crate) fn read(alloc: Global, text: &str) -> Result<Expr, ParseError>
+pub(crate) fn read_text(alloc: Global, text: &str) -> Result<Expr, ParseError>
     ensures { Gives tree result (expression_at text.now) }
 {
     let length = text.len() as u64;
@@ -40,11 +41,11 @@ pub(crate) fn read(alloc: Global, text: &str) -> Result<Expr, ParseError>
     }
     let list = tokens(alloc, text)?;
     let expr = parse_tokens(alloc, length, &list)?;
-    short(alloc, expr)
+    when_short(alloc, expr)
 }
 
 // The expression, if its canonical text is short enough.
-fn short(alloc: Global, expr: Expr) -> Result<Expr, ParseError>
+fn when_short(alloc: Global, expr: Expr) -> Result<Expr, ParseError>
     ensures { Gives tree result (when_short (tree expr)) }
 {
     let text = print_expr(alloc, &expr)?;
@@ -56,11 +57,3 @@ fn short(alloc: Global, expr: Expr) -> Result<Expr, ParseError>
     }
     Ok(expr)
 }
-
-/// A text says one expression, or is refused for one cause.
-pub fn a_text_says_one_thing()
-    ensures one { (text : List ℕ) (e g : Tree) → IsExprText text e → IsExprText text g → e ≡ g }
-    ensures one_cause { (text : List ℕ) (f g : ParseError) → IsRefused text f → IsRefused text g → f ≡ g }
-    ensures not_both { (text : List ℕ) (e : Tree) (f : ParseError) → IsExprText text e → IsRefused text f → ⊥ }
-    ensures either { (text : List ℕ) → ((e : Tree) × IsExprText text e) ⊎ ((f : ParseError) × IsRefused text f) }
-{}

@@ -1,2 +1,2 @@
 mod ContentLemmas
-mod LiteralLemmas
+pub mod LiteralLemmas

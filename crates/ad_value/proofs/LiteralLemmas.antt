@@ -52,7 +52,7 @@ escape_text_more bs cs c =
     ∙ ap (λ l. bs ++ l) (sym (flat_map-append escape_text (encodes cs) (encode c)))
     ∙ ap (λ l. bs ++ flat_map escape_text l) (ap (λ l. encodes cs ++ l) (sym (append-nil (encode c))) ∙ sym (encodes-append cs (c ∷ [])))
 
-item_separator-suc : (i : ℕ) → item_separator (suc i) ≡ codes ", "
+pub item_separator-suc : (i : ℕ) → item_separator (suc i) ≡ codes ", "
 item_separator-suc i = search (rules, tests)
 
 more_items_text-push : (cs : List Content) (c : Content) → more_items_text (contents_of (cs ++ c ∷ [])) ≡ more_items_text (contents_of cs) ++ (codes ", " ++ literal_text c)

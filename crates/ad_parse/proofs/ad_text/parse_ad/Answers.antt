@@ -2,14 +2,14 @@ use Rattle.std.proofs.Common.{ap, sym, arith}
 use Rattle.std.proofs.lemmas.Iterator.Consumers.{YieldsList-at}
 use Rattle.std.proofs.lemmas.Iterator.Splits.{YieldsList-from_str_split}
 use Rattle.std.proofs.lemmas.Result.{err_from_is_err_and}
-use Rattle.ad_parse.specs.AdText.{ad_at, lines, with_lines}
+use Rattle.ad_parse.specs.AdText.{ad_at, lines_of_text, with_lines}
 use Rattle.ad_parse.proofs.Lines.{next_line, no_line, lines_more, lines_end, lines_fail}
 use Rattle.ad_parse.proofs.ad_text.parse_ad.Goals as goal
 
 pub loop-line-init : goal.loop-line-init
 loop-line-init c =
     let s = c.split-line-items.ensures in
-    (lines c.args.text.now, YieldsList-at c.into_iter-line-iterator.ensures.into_iter_gives (YieldsList-from_str_split 10 c.args.text.now (omega arith) s.text s.has_more s.pattern), ap (λ ad. with_lines 1 ad (lines c.args.text.now)) (sym c.new-ad.ensures))
+    (lines_of_text c.args.text.now, YieldsList-at c.into_iter-line-iterator.ensures.into_iter_gives (YieldsList-from_str_split 10 c.args.text.now (omega arith) s.text s.has_more s.pattern), ap (λ ad. with_lines 1 ad (lines_of_text c.args.text.now)) (sym c.new-ad.ensures))
 
 pub returns-in_err-read_line : goal.returns-in_err-read_line
 returns-in_err-read_line c =

@@ -5,7 +5,7 @@ use Rattle.ad_value.specs.Literal.{item_separator}
 use Rattle.ad_tree.specs.declared.tree.Expr.{the_lemmas}
 use Rattle.ad_tree.specs.Tree.{tree, trees_of, rest, rests_of}
 use Rattle.ad_parse.specs.Operators.{level_of}
-use Rattle.ad_parse.specs.Canon.{canon, canon_rests, canon_items, within, looseness, infix_text}
+use Rattle.ad_parse.specs.Canon.{canon, canon_rests, canon_items, canon_within, looseness, infix_text}
 use Rattle.ad_parse.proofs.CanonLemmas.{trees-map, rests-map, rest_text, rests_more, items_more}
 use Rattle.ad_parse.proofs.print.+write.Goals as goal
 
@@ -22,8 +22,8 @@ pub write_rests-loop-rest-preserved : goal.write_rests-loop-rest-preserved
 write_rests-loop-rest-preserved t c =
     let pair : rest c.rest-item.result ≡ (c.rest-item.result.op, tree c.rest-item.result.arg) = search (rules, the_lemmas) in
     let front = string_bytes c.args.text.now ++ canon_rests (rests_of (map rest (take c.loop-rest.rest-index c.deref-rest-items.result.now))) in
-    rw (c.in_ok-write_within.ensures, c.in_ok-push_str.ensures.bytes, c.infix_str.ensures, c.level.ensures, c.loop-rest.invariant)
-    (append_assoc front (infix_text c.rest-item.result.op) (within (level_of c.rest-item.result.op - 1) (looseness (tree c.rest-item.result.arg)) (canon (tree c.rest-item.result.arg))) ∙ ap (λ r. front ++ rest_text r) (sym pair) ∙ rests_more (string_bytes c.args.text.now) c.deref-rest-items.result.now c.loop-rest.rest-index c.rest-item.result (omega arith) c.rest-item.is)
+    rw (c.in_ok-write_within.ensures, c.in_ok-push_str.ensures.bytes, c.infix_text.ensures, c.level_of.ensures, c.loop-rest.invariant)
+    (append_assoc front (infix_text c.rest-item.result.op) (canon_within (level_of c.rest-item.result.op - 1) (looseness (tree c.rest-item.result.arg)) (canon (tree c.rest-item.result.arg))) ∙ ap (λ r. front ++ rest_text r) (sym pair) ∙ rests_more (string_bytes c.args.text.now) c.deref-rest-items.result.now c.loop-rest.rest-index c.rest-item.result (omega arith) c.rest-item.is)
 
 pub write_rests-returns : goal.write_rests-returns
 write_rests-returns t c =

@@ -1,5 +1,5 @@
 use Rattle.ad_parse.proofs.Texts as texts
-use Rattle.ad_parse.proofs.expression.a_text_says_one_thing.Goals as goal
+use Rattle.ad_parse.proofs.laws.a_text_says_one_thing.Goals as goal
 
 pub returns-clause-one : goal.returns-clause-one
 returns-clause-one c = texts.one_tree

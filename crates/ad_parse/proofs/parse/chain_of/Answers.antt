@@ -4,7 +4,7 @@ use Rattle.ad_tree.specs.declared.tree.Expr.{the_lemmas}
 use Rattle.ad_tree.specs.declared.tree.Expr.TheVariants.{Chain}
 use Rattle.ad_tree.specs.declared.tree.RestList.{out-RestList}
 use Rattle.ad_parse.proofs.Steps.{chain_of-none, chain_of-rests}
-use Rattle.ad_parse.proofs.parse.chained.Goals as goal
+use Rattle.ad_parse.proofs.parse.chain_of.Goals as goal
 
 pub returns-then-is_empty : goal.returns-then-is_empty
 returns-then-is_empty c =
