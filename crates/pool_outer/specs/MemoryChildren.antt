@@ -1,5 +1,5 @@
 -- Child programs in memory.
-use Rattle.std.specs.Prelude.{◌≡◌, ◌≢◌, ◌≤◌, ◌<◌, ◌-◌, ℕ, Bool, true, false, List, length, pos, slice_get, find, unwrap_or, refl}
+use Rattle.std.specs.Prelude.{◌≡◌, ◌≢◌, ◌≤◌, ◌<◌, ◌-◌, ℕ, zero, suc, Bool, true, false, List, length, pos, slice_get, find, unwrap_or, refl}
 use Rattle.std.specs.Option.{option_map_or}
 use Rattle.std.specs.Str.{bytes_eq}
 use Rattle.std.proofs.lemmas.Option.{slice_get_past}
@@ -50,6 +50,11 @@ pub record Looks (old new : MemChild) : Type 0 where
       old.state ≡ Running → old.killed ≡ false → 0 < old.looks
       → new ≡ record old { looks = old.looks - 1 }
   pub spared : new.killed ≡ old.killed
+
+-- so many looks at a child, one after the other
+abbrev pub LooksMany : ℕ → MemChild → MemChild → Type 0
+LooksMany zero old new = new ≡ old
+LooksMany (suc n) old new = (between : MemChild) × (LooksMany n old between × Looks between new)
 
 -- a look at the child of that number, and at no other
 pub record LooksAt (child : ℕ) (old new : List MemChild) : Type 0 where

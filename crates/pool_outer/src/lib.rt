@@ -6,6 +6,7 @@ mod clock;
 mod failing;
 mod faults;
 mod gate;
+pub mod laws;
 mod limit;
 mod sink;
 mod spawner;
