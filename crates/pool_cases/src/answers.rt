@@ -167,8 +167,10 @@ fn job_text(id: JobId, out: &mut String) -> Result<(), AllocError> {
 
 fn answer_run(alloc: Global, case: Case<'_>, course: &mut Course, out: &mut String) -> Result<()> {
     let jobs = job_ads(alloc, number(case, case.one_field()?)?, true)?;
-    let ran = run_jobs(alloc, course, jobs)?;
-    Ok(write!(out, "ran\t{ran}")?)
+    match run_jobs(alloc, course, jobs) {
+        Ok(ran) => Ok(write!(out, "ran\t{ran}")?),
+        Err(error) => Ok(refuse(error, out)?),
+    }
 }
 
 // What is seen of the pool, and the number of the history's steps.
