@@ -1,5 +1,5 @@
 -- Child programs in memory.
-use Rattle.std.specs.Prelude.{◌≡◌, ◌≢◌, ◌≤◌, ◌<◌, ◌-◌, ℕ, zero, suc, Bool, true, false, List, length, pos, slice_get, find, unwrap_or, refl}
+use Rattle.std.specs.Prelude.{◌≡◌, ◌≢◌, ◌≤◌, ◌<◌, ◌-◌, ℕ, zero, suc, Bool, true, false, List, Option, length, pos, slice_get, find, unwrap_or, refl}
 use Rattle.std.specs.Option.{option_map_or}
 use Rattle.std.specs.Str.{bytes_eq}
 use Rattle.std.proofs.lemmas.Option.{slice_get_past}
@@ -28,19 +28,23 @@ is_killed children k = option_map_or (λ child. child.killed) (slice_get childre
 abbrev pub new_child : ℕ → ChildEnd → MemChild
 new_child looks ending = record { state = Running; looks = looks; end = ending; killed = false }
 
+-- the first script of a program
+abbrev pub script_of : List Script → List ℕ → Option Script
+script_of scripts program = find (λ script. bytes_eq script.program program) scripts
+
 -- the child of a program, by its first script; one without exits with 0 at its first look
 abbrev pub child_of : List Script → List ℕ → MemChild
 child_of scripts program =
     option_map_or (λ script. new_child script.looks script.end)
-    (find (λ script. bytes_eq script.program program) scripts)
+    (script_of scripts program)
     (new_child 0 (end.Exited (pos 0)))
 
 -- the child of that number
 abbrev pub child_at : List MemChild → ℕ → MemChild
 child_at children k = unwrap_or (slice_get children k) (new_child 0 (end.Exited (pos 0)))
 
--- What a look does to a child: one that was seen to end stays as it is, a killed one has ended by the signal, and another
--- runs on for one look less, or has its ending where none is left.
+-- What a look does to a child: one that was seen to end stays as it is, a killed one has ended by
+-- the signal, and another runs on for one look less, or has its ending where none is left.
 pub record Looks (old new : MemChild) : Type 0 where
   pub ended : old.state ≢ Running → new ≡ old
   pub killed : old.state ≡ Running → old.killed ≡ true → new.state ≡ Signalled SIGKILL
@@ -74,4 +78,5 @@ pub record KillsAt (child : ℕ) (old new : List MemChild) : Type 0 where
 pub unborn :
     (children : List MemChild) (k : ℕ) → length children ≤ k
     → (last_seen children k ≡ Running) × (is_killed children k ≡ false)
-unborn children k past = (rw (slice_get_past children k past) refl, rw (slice_get_past children k past) refl)
+unborn children k past =
+    (rw (slice_get_past children k past) refl, rw (slice_get_past children k past) refl)

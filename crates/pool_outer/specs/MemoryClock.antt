@@ -2,7 +2,8 @@
 use Rattle.std.specs.Prelude.{◌≡◌, ℕ, ◌+◌, ◌-◌, ◌*◌, List, length, min, slice_index}
 use Rattle.pool_outer.specs.declared.clock.TheConstants.{LAST_READING}
 
--- reading number n: that of the list, or behind its end the last one and a step for each further reading
+-- reading number n: that of the list, or after its end the last one and a step for each further
+-- reading
 abbrev pub nth_reading : List ℕ → ℕ → ℕ → ℕ
 nth_reading readings step n =
     let last : ℕ = length readings - 1 in

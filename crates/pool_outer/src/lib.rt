@@ -1,5 +1,5 @@
-//! The outside of a pool: traits for its files, its clock, its child programs, its output and its gate, each with
-//! a form in memory and the real one.
+//! The outside of a pool: traits for its files, its clock, its child programs, its output and its
+//! gate, each with a form in memory and the real one.
 #![tactic(auto)]
 
 mod clock;

@@ -26,12 +26,15 @@ pub trait Sink {
     /// What was written.
     ghost written: { Self → List ℕ };
 
-    /// Takes some of the bytes, from the first on, and says how many: at least one, where there are any.
+    /// Takes some of the bytes, from the first on, and says how many: at least one, where there are
+    /// any.
     fn write(&mut self, bytes: &[u8]) -> Result<usize, SinkError>
         ensures count { IfOk result (λ n. n ≤ length bytes.now) }
         ensures progress { 0 < length bytes.now → IfOk result (λ n. 0 < n) }
-        ensures taken { tells self.old ≡ true → IfOk result (λ n. written self.new ≡ written self.old ++ take n bytes.now) }
-        ensures refused { tells self.old ≡ true → OnErr result (written self.new ≡ written self.old) }
+        ensures taken { tells self.old ≡ true
+            → IfOk result (λ n. written self.new ≡ written self.old ++ take n bytes.now) }
+        ensures refused { tells self.old ≡ true
+            → OnErr result (written self.new ≡ written self.old) }
         ensures told { tells self.new ≡ tells self.old }
         ensures cause { HasCause Failed (faults self.old) (faults self.new) result };
 }

@@ -15,7 +15,8 @@ pub use memory::{ChildEnd, FailingSpawns, MemSpawner, Script, SureSpawner};
 use std::alloc::{AllocError, AllocFailed, Global};
 use thiserror::Error;
 
-/// What a child is started with. An empty folder is the program's own, and an empty file name is `/dev/null`.
+/// What a child is started with. An empty folder is the program's own, and an empty file name is
+/// `/dev/null`.
 #[derive(Debug)]
 pub struct Launch {
     pub program: Text,
@@ -90,8 +91,12 @@ pub trait Spawner: Drop {
 
     fn launch(&mut self, alloc: Global, what: &Launch) -> Result<u64, SpawnError>
         ensures number { IfOk result (λ n. n ≡ count self.old) }
-        ensures count { count self.new ≡ (if is_ok result then count self.old + 1 else count self.old) }
-        ensures launched { tells self.old ≡ true → launches self.new ≡ (if is_ok result then launches self.old ++ what.now ∷ [] else launches self.old) }
+        ensures count { count self.new
+            ≡ (if is_ok result then count self.old + 1 else count self.old) }
+        ensures launched { tells self.old ≡ true
+            → launches self.new ≡ (if is_ok result
+            then launches self.old ++ what.now ∷ []
+            else launches self.old) }
         ensures killed { tells self.old ≡ true → (k : ℕ) → killed self.new k ≡ killed self.old k }
         ensures seen { tells self.old ≡ true → SameSightings (seen self.old) (seen self.new) }
         ensures told { tells self.new ≡ tells self.old }
@@ -100,8 +105,10 @@ pub trait Spawner: Drop {
     /// Looks at a child. It is `Running` only where it hadn't ended at this look, and ends once.
     fn poll(&mut self, child: u64) -> Result<ChildState, SpawnError>
         requires { child < count self.old }
-        ensures state { tells self.old ≡ true → IfOk result (λ s. Sees child s (seen self.old) (seen self.new)) }
-        ensures unseen { tells self.old ≡ true → OnErr result (SameSightings (seen self.old) (seen self.new)) }
+        ensures state { tells self.old ≡ true
+            → IfOk result (λ s. Sees child s (seen self.old) (seen self.new)) }
+        ensures unseen { tells self.old ≡ true
+            → OnErr result (SameSightings (seen self.old) (seen self.new)) }
         ensures no_memory { result ≢ Err SpawnError.Memory }
         ensures count { count self.new ≡ count self.old }
         ensures launched { tells self.old ≡ true → launches self.new ≡ launches self.old }
@@ -113,8 +120,10 @@ pub trait Spawner: Drop {
     fn kill(&mut self, child: u64) -> Result<(), SpawnError>
         requires { child < count self.old }
         ensures killed { tells self.old ≡ true → OnOk result (killed self.new child ≡ true) }
-        ensures spared { tells self.old ≡ true → OnErr result (killed self.new child ≡ killed self.old child) }
-        ensures others { tells self.old ≡ true → (k : ℕ) → k ≢ child → killed self.new k ≡ killed self.old k }
+        ensures spared { tells self.old ≡ true
+            → OnErr result (killed self.new child ≡ killed self.old child) }
+        ensures others { tells self.old ≡ true
+            → (k : ℕ) → k ≢ child → killed self.new k ≡ killed self.old k }
         ensures seen { tells self.old ≡ true → SameSightings (seen self.old) (seen self.new) }
         ensures no_memory { result ≢ Err SpawnError.Memory }
         ensures count { count self.new ≡ count self.old }
@@ -126,7 +135,8 @@ pub trait Spawner: Drop {
     ghost counted: { (s : Self) → tells s ≡ true → length (launches s) ≡ count s };
 
     /// A child that isn't there yet was neither seen to end nor killed.
-    ghost unborn: { (s : Self) (k : ℕ) → tells s ≡ true → count s ≤ k → (seen s k ≡ Running) × (killed s k ≡ false) };
+    ghost unborn: { (s : Self) (k : ℕ)
+        → tells s ≡ true → count s ≤ k → (seen s k ≡ Running) × (killed s k ≡ false) };
 }
 
 impl From<Memory> for SpawnError {

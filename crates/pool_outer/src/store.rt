@@ -25,13 +25,14 @@ pub enum StoreError {
 
 /// Named files.
 ///
-/// A stop leaves of each file its solid bytes and any front of the bytes behind them. A moment is a count of changes, by
-/// which a clause speaks of every stop since an earlier one.
+/// A stop leaves of each file its solid bytes and any prefix of the bytes after them. A moment is a
+/// count of changes, by which a clause speaks of every stop since an earlier one.
 pub trait Store: Drop {
     /// How many calls have failed.
     ghost faults: { Self → ℕ };
 
-    /// Whether a name is known to be there: once a call for it was answered by `Ok`, until a rename takes it away.
+    /// Whether a name is known to be there: once a call for it was answered by `Ok`, until a rename
+    /// takes it away.
     ghost known: { Self → List ℕ → Bool };
 
     /// Whether the members below say what the files hold.
@@ -51,18 +52,23 @@ pub trait Store: Drop {
 
     /// The file's size in bytes.
     fn size(&mut self, alloc: Global, name: &str) -> Result<u64, StoreError>
-        ensures size { tells self.old ≡ true → IfOk result (λ n. option_map length (file self.old name.now) ≡ Some n) }
-        ensures missing { tells self.old ≡ true → IsErrOf result StoreError.Missing → file self.old name.now ≡ None }
+        ensures size { tells self.old ≡ true
+            → IfOk result (λ n. option_map length (file self.old name.now) ≡ Some n) }
+        ensures missing { tells self.old ≡ true → IsErrOf result StoreError.Missing
+            → file self.old name.now ≡ None }
         ensures unknown { IsErrOf result StoreError.Missing → known self.old name.now ≡ false }
         ensures known { OnOk result (known self.new name.now ≡ true) }
         ensures stays { (n : List ℕ) → known self.old n ≡ true → known self.new n ≡ true }
-        ensures same { tells self.old ≡ true → SameFiles (file self.old) (file self.new) (solid self.old) (solid self.new) }
-        ensures time { tells self.old ≡ true → Elapses (moment self.old) (moment self.new) (left_since self.old) (left_since self.new) (file self.new) (solid self.new) }
+        ensures same { tells self.old ≡ true
+            → SameFiles (file self.old) (file self.new) (solid self.old) (solid self.new) }
+        ensures time { tells self.old ≡ true
+            → Elapses (moment self.old) (moment self.new) (left_since self.old)
+            (left_since self.new) (file self.new) (solid self.new) }
         ensures told { tells self.new ≡ tells self.old }
         ensures cause { HasCause Failed (faults self.old) (faults self.new) result };
 
-    /// Copies bytes of the file, from a place on, to the front of a buffer, and says how many: none for a buffer that isn't
-    /// empty only at or past the end.
+    /// Copies bytes of the file, from a place on, to the start of a buffer, and says how many: none
+    /// for a buffer that isn't empty only at or past the end.
     fn read_at(
         &mut self,
         alloc: Global,
@@ -71,24 +77,32 @@ pub trait Store: Drop {
         into: &mut [u8],
     ) -> Result<usize, StoreError>
         ensures count { IfOk result (λ n. n ≤ length into.old) }
-        ensures read { tells self.old ≡ true → IfOk result (λ n. ReadAt (file self.old name.now) place n into.old into.new) }
-        ensures missing { tells self.old ≡ true → IsErrOf result StoreError.Missing → file self.old name.now ≡ None }
+        ensures read { tells self.old ≡ true
+            → IfOk result (λ n. ReadAt (file self.old name.now) place n into.old into.new) }
+        ensures missing { tells self.old ≡ true → IsErrOf result StoreError.Missing
+            → file self.old name.now ≡ None }
         ensures unknown { IsErrOf result StoreError.Missing → known self.old name.now ≡ false }
         ensures known { OnOk result (known self.new name.now ≡ true) }
         ensures stays { (n : List ℕ) → known self.old n ≡ true → known self.new n ≡ true }
-        ensures same { tells self.old ≡ true → SameFiles (file self.old) (file self.new) (solid self.old) (solid self.new) }
-        ensures time { tells self.old ≡ true → Elapses (moment self.old) (moment self.new) (left_since self.old) (left_since self.new) (file self.new) (solid self.new) }
+        ensures same { tells self.old ≡ true
+            → SameFiles (file self.old) (file self.new) (solid self.old) (solid self.new) }
+        ensures time { tells self.old ≡ true
+            → Elapses (moment self.old) (moment self.new) (left_since self.old)
+            (left_since self.new) (file self.new) (solid self.new) }
         ensures told { tells self.new ≡ tells self.old }
         ensures cause { HasCause Failed (faults self.old) (faults self.new) result };
 
     /// A name that is known is there.
-    ghost known_is_there: { (s : Self) (n : List ℕ) → tells s ≡ true → known s n ≡ true → IsSome (file s n) };
+    ghost known_is_there: { (s : Self) (n : List ℕ)
+        → tells s ≡ true → known s n ≡ true → IsSome (file s n) };
 
     /// Now is one of the moments since an earlier one.
-    ghost counts_now: { (s : Self) (n : List ℕ) (t : ℕ) (c : List ℕ) → tells s ≡ true → t ≤ moment s → Leaves (file s) (solid s) n c → left_since s n t c };
+    ghost counts_now: { (s : Self) (n : List ℕ) (t : ℕ) (c : List ℕ)
+        → tells s ≡ true → t ≤ moment s → Leaves (file s) (solid s) n c → left_since s n t c };
 
     /// Since now there is no other moment.
-    ghost only_now: { (s : Self) (n : List ℕ) (c : List ℕ) → tells s ≡ true → left_since s n (moment s) c → Leaves (file s) (solid s) n c };
+    ghost only_now: { (s : Self) (n : List ℕ) (c : List ℕ)
+        → tells s ≡ true → left_since s n (moment s) c → Leaves (file s) (solid s) n c };
 }
 
 impl From<Memory> for StoreError {

@@ -5,8 +5,8 @@ ghost use Rattle.pool_outer.specs.MemoryClock.{IsReading, nth_reading};
 use super::{Clock, LAST_READING};
 use std::sync::atomic::{AtomicU64, Ordering};
 
-/// Gives the readings of a list, each once, and then the last one, a step of seconds later at each further reading. No list
-/// counts as a list of 0, and no reading is above `LAST_READING`.
+/// Gives the readings of a list, each once, and then the last one, a step of seconds later at each
+/// further reading. No list counts as a list of 0, and no reading is above `LAST_READING`.
 #[derive(Debug, Drop)]
 pub struct MemClock {
     readings: Vec<u64>,
@@ -16,7 +16,8 @@ pub struct MemClock {
 
 impl MemClock {
     pub fn new(readings: Vec<u64>, step: u64) -> MemClock
-        ensures { (t : ℕ) → ⟦<MemClock as Clock>⟧.allows result t ↔ IsReading readings.items step t }
+        ensures { (t : ℕ)
+            → ⟦<MemClock as Clock>⟧.allows result t ↔ IsReading readings.items step t }
     {
         MemClock {
             readings,

@@ -4,7 +4,8 @@ ghost use Rattle.std.specs.Prelude.{◌≤◌, IfSome};
 use super::{Clock, LAST_READING};
 use std::sync::atomic::{AtomicIn, Ordering, Rule};
 
-/// The system's clock. Where it can't be read, or stands outside the range of readings, this is its last good reading, at first 0.
+/// The system's clock. Where it can't be read, or stands outside the range of readings, this is its
+/// last good reading, at first 0.
 #[derive(Drop)]
 pub struct SystemClock<R: std::rt::Clock + Drop> {
     rt: R,

@@ -7,7 +7,8 @@ use super::{Sink, SinkError};
 use crate::faults::count_fault;
 use std::alloc::Global;
 
-/// Keeps what was written. One of its calls may fail, by its number from 0; want of memory counts as a fault.
+/// Keeps what was written. One of its calls may fail, by its number from 0; running out of memory
+/// counts as a fault.
 #[derive(Debug, Drop)]
 pub struct MemSink {
     bytes: Vec<u8>,

@@ -5,7 +5,8 @@ use super::{Sink, SinkError};
 use crate::faults::count_fault;
 use std::io::Write;
 
-/// Writes to a writer, as to standard output. It tells nothing of what was written; a writer that takes nothing has failed.
+/// Writes to a writer, as to standard output. It tells nothing of what was written; a writer that
+/// takes nothing has failed.
 #[derive(Drop)]
 pub struct StdSink<W: Write + Drop> {
     out: W,

@@ -15,8 +15,9 @@ use std::{fs, io};
 
 /// Programs of the system. It tells nothing of what becomes of them.
 ///
-/// A relative program is looked for as the system does, in the child's folder or along `PATH`; relative names of files are
-/// taken in the folder. The files for output and errors are made, or emptied where they are there.
+/// A relative program is looked for as the system does, in the child's folder or along `PATH`;
+/// relative names of files are taken in the folder. The files for output and errors are made, or
+/// emptied where they are there.
 #[derive(Drop)]
 pub struct ChildSpawner<R: Processes + Files<File = File> + Drop> {
     rt: R,
@@ -97,7 +98,8 @@ impl<R: Processes + Files<File = File> + Drop> Spawner for ChildSpawner<R> {
 
 fn ending(status: ExitStatus) -> ChildState
     ensures exited { IfSome (exit_code status) (λ code. result ≡ ChildState.Exited code) }
-    ensures signalled { exit_code status ≡ None → IfSome (exit_signal status) (λ signal. result ≡ ChildState.Signalled signal) }
+    ensures signalled { exit_code status ≡ None
+        → IfSome (exit_signal status) (λ signal. result ≡ ChildState.Signalled signal) }
 {
     match status.code() {
         Some(code) => ChildState::Exited(code),
@@ -118,12 +120,12 @@ fn start<R: Processes + Files<File = File>>(
     if !folder.is_empty() {
         command.current_dir(folder)?;
     }
-    let input = opened(rt, alloc, folder, what.input.as_str(), Use::Read)?;
-    let output = opened(rt, alloc, folder, what.output.as_str(), Use::Write)?;
+    let input = open_file(rt, alloc, folder, what.input.as_str(), Use::Read)?;
+    let output = open_file(rt, alloc, folder, what.output.as_str(), Use::Write)?;
     // Both in one file write one after the other, as by one handle.
     let errors = match &output {
         Some(file) if what.errors.as_str() == what.output.as_str() => Some(file.try_clone()?),
-        _ => opened(rt, alloc, folder, what.errors.as_str(), Use::Write)?,
+        _ => open_file(rt, alloc, folder, what.errors.as_str(), Use::Write)?,
     };
     command.stdin(stream(input));
     command.stdout(stream(output));
@@ -138,7 +140,7 @@ enum Use {
 }
 
 // The file of that name in the folder; none for no name.
-fn opened<R: Files<File = File>>(
+fn open_file<R: Files<File = File>>(
     rt: &R,
     alloc: Global,
     folder: &str,

@@ -1,12 +1,11 @@
 //! Child programs in memory.
-ghost use Rattle.std.specs.Prelude.{◌≡◌, ◌<◌, ◌↔◌, length, find, IfOk, IsOk, IsOkAnd, IsErrOf, IsOkUnless, OnErr, OnOk};
+ghost use Rattle.std.specs.Prelude.{◌≡◌, ◌<◌, ◌↔◌, length, IfOk, IsOk, IsOkAnd, IsErrOf, IsOkUnless, OnErr, OnOk};
 ghost use Rattle.std.specs.Option.{option_copied};
-ghost use Rattle.std.specs.Str.{bytes_eq};
 ghost use Rattle.pool_outer.specs.declared.spawner.ChildState.TheVariants.{Running, Signalled};
 ghost use Rattle.pool_outer.specs.declared.spawner.SpawnError.TheVariants.{Failed};
 ghost use Rattle.pool_outer.specs.Cause.{HasCause};
 ghost use Rattle.pool_outer.specs.MemoryCalls.{NextFails, one_more};
-ghost use Rattle.pool_outer.specs.MemoryChildren.{child_of, new_child, Looks};
+ghost use Rattle.pool_outer.specs.MemoryChildren.{child_of, new_child, script_of, Looks};
 
 use super::{ChildState, Launch, SpawnError, Spawner};
 use crate::failing::FailingCalls;
@@ -17,7 +16,8 @@ use std::alloc::Global;
 /// The signal that kills.
 const SIGKILL: i32 = 9;
 
-/// What becomes of a program of that name: it runs on for so many looks, and the next one finds that ending.
+/// What becomes of a program of that name: it runs on for so many looks, and the next one finds
+/// that ending.
 #[derive(Debug)]
 pub struct Script {
     pub program: Text,
@@ -96,7 +96,7 @@ impl MemChild {
 }
 
 fn script_for<'a>(scripts: &'a [Script], program: &str) -> Option<&'a Script>
-    ensures { option_copied result ≡ find (λ script. bytes_eq script.program program.now) scripts.now }
+    ensures { option_copied result ≡ script_of scripts.now program.now }
 {
     scripts
         .iter()
@@ -112,8 +112,9 @@ fn child_for(scripts: &[Script], program: &str) -> MemChild
     }
 }
 
-/// Children in memory, which are started and looked at without fail. A program without a script exits with 0 at its first
-/// look, and a killed child that wasn't seen to end is ended by signal 9 at its next look.
+/// Children in memory, which are started and looked at without fail. A program without a script
+/// exits with 0 at its first look, and a killed child that wasn't seen to end is ended by signal 9
+/// at its next look.
 #[derive(Debug)]
 pub struct SureSpawner {
     scripts: Vec<Script>,
@@ -175,7 +176,6 @@ impl Spawner for SureSpawner {
 
     ghost unborn = { λ s k tells past. unborn s.children.items k past };
 
-    #[tactic(auto, using(crate::proofs::Children::seen_as_before, crate::proofs::Children::killed_as_before))]
     fn launch(&mut self, alloc: Global, what: &Launch) -> Result<u64, SpawnError>
         ensures ok { IfOk result (λ number. Launches what.now self.old self.new number) }
         ensures err { OnErr result (IsSame self.old self.new) }
@@ -209,7 +209,8 @@ impl Spawner for SureSpawner {
     }
 }
 
-/// The calls of a `MemSpawner` that fail, by their numbers from 0; each kind of call is counted by itself.
+/// The calls of a `MemSpawner` that fail, by their numbers from 0; each kind of call is counted by
+/// itself.
 #[derive(Debug, Drop)]
 pub struct FailingSpawns {
     pub launches: Vec<u64>,
@@ -304,7 +305,8 @@ impl Spawner for MemSpawner {
     ghost unborn = { λ s k tells past. unborn s.inner.children.items k past };
 
     fn launch(&mut self, alloc: Global, what: &Launch) -> Result<u64, SpawnError>
-        ensures ok { IfOk result (Launches what.now (sure_spawner self.old) (sure_spawner self.new)) }
+        ensures ok { IfOk result
+            (Launches what.now (sure_spawner self.old) (sure_spawner self.new)) }
         ensures err { OnErr result (IsSame (sure_spawner self.old) (sure_spawner self.new)) }
         ensures counted { CountsLaunch self.old self.new }
         ensures fails { IsErrOf result SpawnError.Failed ↔ NextFails (launch_calls self.old) }

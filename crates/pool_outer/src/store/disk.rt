@@ -44,7 +44,8 @@ impl<R: Files + Drop> DiskStore<R> {
     #[tactic(auto, using(crate::proofs::Names::pushed_is_named))]
     fn learn(&mut self, alloc: Global, name: &str) -> Result<(), Memory>
         ensures known { OnOk result (is_named self.new.known name.now ≡ true) }
-        ensures stays { (n : List ℕ) → is_named self.old.known n ≡ true → is_named self.new.known n ≡ true }
+        ensures stays { (n : List ℕ)
+            → is_named self.old.known n ≡ true → is_named self.new.known n ≡ true }
         ensures faults { self.new.faults ≡ self.old.faults }
     {
         if self.knows(name) {

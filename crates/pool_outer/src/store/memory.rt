@@ -1,5 +1,5 @@
 //! Files in memory.
-ghost use Rattle.std.specs.Prelude.{◌≡◌, ◌↔◌, ℕ, List, IsErrOf, IsOkUnless, IsOkAnd, MatchOption};
+ghost use Rattle.std.specs.Prelude.{◌≡◌, ◌↔◌, IsErrOf, IsOkUnless, IsOkAnd, MatchOption};
 ghost use Rattle.std.specs.Option.{option_copied};
 ghost use Rattle.pool_outer.specs.declared.store.StoreError.TheVariants.{Failed};
 ghost use Rattle.pool_outer.specs.Cause.{HasCause};
@@ -28,15 +28,18 @@ impl Drop for MemFile {
     }
 }
 
-/// Files in memory, which never fail and of which a stop leaves every byte. The first file of a name counts.
+/// Files in memory, which never fail and of which a stop leaves every byte. The first file of a
+/// name counts.
 #[derive(Debug, Drop)]
 pub struct SureStore {
     files: Vec<MemFile>,
 }
 
 impl SureStore {
+    ghost use Rattle.pool_outer.specs.MemoryParts.{files_of};
+
     pub fn new(files: Vec<MemFile>) -> SureStore
-        ensures { (name : List ℕ) → ⟦<SureStore as Store>⟧.file result name ≡ file_in files.items name }
+        ensures { files_of result ≡ files.items }
     {
         SureStore { files }
     }
@@ -52,10 +55,10 @@ impl SureStore {
 }
 
 impl Store for SureStore {
-    ghost use Rattle.std.specs.Prelude.{true, is_some, length, ℕ, ◌≡◌};
+    ghost use Rattle.std.specs.Prelude.{true, is_some};
     ghost use Rattle.pool_outer.specs.MemoryParts.{files_of};
-    ghost use Rattle.pool_outer.specs.Files.{bytes_in, Leaves};
-    ghost use Rattle.pool_outer.specs.MemoryFiles.{file_in};
+    ghost use Rattle.pool_outer.specs.Files.{Leaves};
+    ghost use Rattle.pool_outer.specs.MemoryFiles.{file_in, solid_in};
 
     ghost faults = { λ _. 0 };
 
@@ -65,11 +68,12 @@ impl Store for SureStore {
 
     ghost file = { λ s name. file_in s.files.items name };
 
-    ghost solid = { λ s name. length (bytes_in (file_in s.files.items name)) };
+    ghost solid = { λ s name. solid_in s.files.items name };
 
     ghost moment = { λ _. 0 };
 
-    ghost left_since = { λ s name _ image. Leaves (file_in s.files.items) (λ n. length (bytes_in (file_in s.files.items n))) name image };
+    ghost left_since = { λ s name _ image.
+        Leaves (file_in s.files.items) (solid_in s.files.items) name image };
 
     ghost known_is_there = { λ s name tells known. known };
 
@@ -125,11 +129,11 @@ impl Drop for MemStore {
 }
 
 impl MemStore {
-    ghost use Rattle.pool_outer.specs.MemoryParts.{store_calls};
+    ghost use Rattle.pool_outer.specs.MemoryParts.{files_of, store_calls, sure_store};
 
     pub fn new(files: Vec<MemFile>, fails: Vec<u64>) -> MemStore
         ensures calls { store_calls result ≡ record { next = 0; fails = fails } }
-        ensures files { (name : List ℕ) → ⟦<MemStore as Store>⟧.file result name ≡ file_in files.items name }
+        ensures files { files_of (sure_store result) ≡ files.items }
         ensures faults { ⟦<MemStore as Store>⟧.faults result ≡ 0 }
     {
         MemStore {
@@ -156,10 +160,10 @@ impl MemStore {
 }
 
 impl Store for MemStore {
-    ghost use Rattle.std.specs.Prelude.{true, is_some, length};
-    ghost use Rattle.pool_outer.specs.Files.{bytes_in, Leaves};
+    ghost use Rattle.std.specs.Prelude.{true, is_some};
+    ghost use Rattle.pool_outer.specs.Files.{Leaves};
     ghost use Rattle.pool_outer.specs.MemoryParts.{files_of, sure_store, store_calls, store_faults};
-    ghost use Rattle.pool_outer.specs.MemoryFiles.{file_in};
+    ghost use Rattle.pool_outer.specs.MemoryFiles.{file_in, solid_in};
 
     ghost faults = { λ s. s.faults };
 
@@ -169,11 +173,12 @@ impl Store for MemStore {
 
     ghost file = { λ s name. file_in s.inner.files.items name };
 
-    ghost solid = { λ s name. length (bytes_in (file_in s.inner.files.items name)) };
+    ghost solid = { λ s name. solid_in s.inner.files.items name };
 
     ghost moment = { λ _. 0 };
 
-    ghost left_since = { λ s name _ image. Leaves (file_in s.inner.files.items) (λ n. length (bytes_in (file_in s.inner.files.items n))) name image };
+    ghost left_since = { λ s name _ image.
+        Leaves (file_in s.inner.files.items) (solid_in s.inner.files.items) name image };
 
     ghost known_is_there = { λ s name tells known. known };
 
@@ -214,7 +219,7 @@ impl Store for MemStore {
     }
 }
 
-// Copies bytes from a place on to the front of a buffer, and says how many.
+// Copies bytes from a place on to the start of a buffer, and says how many.
 fn copy_from(bytes: &[u8], place: u64, into: &mut [u8]) -> usize
     ensures { Copies bytes.now place result into.old into.new }
 {
