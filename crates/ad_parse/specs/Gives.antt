@@ -21,18 +21,18 @@ abbrev pub Gives : {X Y : Type 0} → (X → Y) → Result X ParseError → Resu
 Gives view (Ok x) read = read ≡ Ok (view x)
 Gives view (Err e) read = Fails e read
 
--- a thing and the tokens after it, lent
-abbrev pub Lent : Type 0 → Type 0
-Lent X = Result (X × Bor (List Placed)) ParseError
+-- what a function of the parser gives: a thing and the tokens after it, or an error
+abbrev pub ParseResult : Type 0 → Type 0
+ParseResult X = Result (X × Bor (List Placed)) ParseError
 
-abbrev pub GivesTree : Lent Expr → ReadResult Tree → Type 0
+abbrev pub GivesTree : ParseResult Expr → ReadResult Tree → Type 0
 GivesTree read given = Gives (λ x. (tree x.0, x.1.now)) read given
 
-abbrev pub GivesTrees : Lent ExprList → ReadResult Trees → Type 0
+abbrev pub GivesTrees : ParseResult ExprList → ReadResult Trees → Type 0
 GivesTrees read given = Gives (λ x. (trees_of (trees x.0), x.1.now)) read given
 
 -- no more tokens are left than there were
-abbrev pub LeavesWithin : {X : Type 0} → List Placed → Lent X → Type 0
+abbrev pub LeavesWithin : {X : Type 0} → List Placed → ParseResult X → Type 0
 LeavesWithin ts read = IfOk read (λ x. length x.1.now ≤ length ts)
 
 -- the tokens after a mark

@@ -1,6 +1,7 @@
 pub mod Operators
 pub mod Grammar
 pub mod Reader
+pub mod Parser
 pub mod Gives
 pub mod Misfit
 pub mod Canon

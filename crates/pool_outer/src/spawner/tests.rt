@@ -130,24 +130,18 @@ fn check_programs<P: Spawner>(
     }
 }
 
-#[test]
-fn programs_of_the_system_end_as_they_do(rt: HostRuntime) {
-    let mut spawner = ChildSpawner::new(rt.alloc(), &rt);
-    check_programs(&rt, rt.alloc(), &mut spawner, PROGRAMS);
-}
-
-const FOLDER: &str = "pool_outer_folder";
+const FOLDER: &str = "outer_folder";
 
 const BEFORE: &[Case] = &[(
     "/bin/sh",
-    "-c|rm -rf $1; mkdir $1; cd $1; printf read > in; echo before > out|sh|pool_outer_folder",
+    "-c|rm -rf $1; mkdir $1; cd $1; printf read > in; echo before > out|sh|outer_folder",
     false,
     SUCCESS,
 )];
 
 const APART: &[Case] = &[(
     "/bin/sh",
-    "-c|cd $1; test \"$(tr '\\n' , < out) $(tr '\\n' , < err)\" = 'read said,'|sh|pool_outer_folder",
+    "-c|cd $1; cat err >> out; test $(tr '\\n' , < out) = readsaid,|sh|outer_folder",
     false,
     SUCCESS,
 )];
@@ -155,11 +149,11 @@ const APART: &[Case] = &[(
 const TOGETHER: &[Case] = &[
     (
         "/bin/sh",
-        "-c|cd $1; test \"$(tr '\\n' , < out) $(tr '\\n' , < err)\" = 'one,two,three, said,'|sh|pool_outer_folder",
+        "-c|cd $1; cat err >> out; test $(tr '\\n' , < out) = one,two,three,said,|sh|outer_folder",
         false,
         SUCCESS,
     ),
-    ("/bin/rm", "-r|pool_outer_folder", false, SUCCESS),
+    ("/bin/rm", "-r|outer_folder", false, SUCCESS),
 ];
 
 // A shell that succeeds in the folder, and has its input, its output and its errors there.
@@ -182,7 +176,8 @@ fn check_shell<P: Spawner>(
     assert_eq!(rt; got, SUCCESS, "{words}");
 }
 
-fn check_shells<P: Spawner>(rt: &(impl Clock + Abort), alloc: Global, spawner: &mut P) {
+// A shell reads and writes the files of its folder.
+fn check_files<P: Spawner>(rt: &(impl Clock + Abort), alloc: Global, spawner: &mut P) {
     check_programs(rt, alloc, spawner, BEFORE);
     check_shell(rt, alloc, spawner, "-c|cat; echo said >&2", "err");
     check_programs(rt, alloc, spawner, APART);
@@ -192,7 +187,8 @@ fn check_shells<P: Spawner>(rt: &(impl Clock + Abort), alloc: Global, spawner: &
 }
 
 #[test]
-fn a_program_reads_and_writes_the_files_of_its_folder(rt: HostRuntime) {
+fn programs_of_the_system_run_as_they_are_launched(rt: HostRuntime) {
     let mut spawner = ChildSpawner::new(rt.alloc(), &rt);
-    check_shells(&rt, rt.alloc(), &mut spawner);
+    check_programs(&rt, rt.alloc(), &mut spawner, PROGRAMS);
+    check_files(&rt, rt.alloc(), &mut spawner);
 }

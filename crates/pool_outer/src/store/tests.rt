@@ -43,7 +43,7 @@ fn check_file<D: Store>(
     alloc: Global,
     store: &mut D,
 ) -> Result<(), Fail> {
-    let name = "pool_outer_file";
+    let name = "outer_file";
     check(rt, alloc, store, name, Err(MISSING), (0, Err(MISSING)));
     fs::write(rt, name, "hello")?;
     check(rt, alloc, store, name, Ok(5), (1, Ok((3, *b"ell"))));
