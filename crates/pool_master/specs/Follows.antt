@@ -23,13 +23,15 @@ pub record AreRead (allows : ℕ → Type 0) (list : List Step) : Type 0 where
   pub in_range : All (λ s. reading_of s.event ≤ 253402207200) list
 
 -- what a spawner that tells was asked, and what was seen of its children
-pub record Serves (launches : List Launch) (seen : ℕ → ChildState) (killed : ℕ → Bool) (list : List Step) : Type 0 where
+pub record Serves (launches : List Launch) (seen : ℕ → ChildState) (killed : ℕ → Bool)
+    (list : List Step) : Type 0 where
   pub launched : IsLaunched list launches
   pub ended : EndAsSeen (started_runs list) seen
   pub spared : (child : ℕ) → killed child ≡ false
 
 -- all of it; the spawner's count of faults was the first number and is the second
-pub record Follows (allows : ℕ → Type 0) (tells : Bool) (launches : List Launch) (seen : ℕ → ChildState) (killed : ℕ → Bool) (before now : ℕ) (list : List Step) : Type 0 where
+pub record Follows (allows : ℕ → Type 0) (tells : Bool) (launches : List Launch)
+    (seen : ℕ → ChildState) (killed : ℕ → Bool) (before now : ℕ) (list : List Step) : Type 0 where
   pub read : AreRead allows list
   pub served : tells ≡ true → Serves launches seen killed list
   pub not_started : RoseBy (not_started_count list) before now
@@ -40,7 +42,8 @@ pub record IsBetween (tells : Bool) (launches : List Launch) (list : List Step) 
   pub launched : tells ≡ true → launches ≡ launches_of (started_runs list)
 
 -- the event has happened, at a reading of the clock, with that answer
-pub record Happens (allows : ℕ → Type 0) (event : Event) (answer : Kept) (old new : CourseValue) : Type 0 where
+pub record Happens (allows : ℕ → Type 0) (event : Event) (answer : Kept) (old new : CourseValue)
+    : Type 0 where
   pub allowed : allows (reading_of event)
   pub in_range : reading_of event ≤ 253402207200
   pub list : new.list ≡ old.list ++ record { event = event; kept = answer } ∷ []
@@ -49,7 +52,8 @@ pub record Happens (allows : ℕ → Type 0) (event : Event) (answer : Kept) (ol
 
 -- it has, at some reading
 abbrev pub HappensOnce : (ℕ → Type 0) → (ℕ → Event) → Kept → CourseValue → CourseValue → Type 0
-HappensOnce allows event answer old new = (reading : ℕ) × Happens allows (event reading) answer old new
+HappensOnce allows event answer old new = (reading : ℕ)
+    × Happens allows (event reading) answer old new
 
 -- no slot has the number of an earlier one
 abbrev pub AreNumberedOnce : List SlotAd → Type 0

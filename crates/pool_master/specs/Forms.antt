@@ -70,20 +70,23 @@ request_memory_line digits = codes "request_memory = " ++ digits
 
 abbrev pub IsOfForm : LineForm → List ℕ → Type 0
 IsOfForm MachineLine text = (name : List ℕ) × (text ≡ machine_line name) × IsName name
-IsOfForm MemoryLine text = (digits : List ℕ) × (text ≡ memory_line digits) × ((amount : ℕ) × IsAmount digits amount)
+IsOfForm MemoryLine text = (digits : List ℕ) × (text ≡ memory_line digits)
+    × ((amount : ℕ) × IsAmount digits amount)
 IsOfForm ExecutableLine text = (path : List ℕ) × (text ≡ executable_line path) × IsPath path
-IsOfForm RequestMemoryLine text = (digits : List ℕ) × (text ≡ request_memory_line digits) × ((amount : ℕ) × IsAmount digits amount)
+IsOfForm RequestMemoryLine text = (digits : List ℕ) × (text ≡ request_memory_line digits)
+    × ((amount : ℕ) × IsAmount digits amount)
 IsOfForm QueueLine text = text ≡ codes "queue"
 
--- the line that stands at a place is the one that is wanted there: it has its newline and is of that form, and behind the last form
--- there is no line
+-- the line that stands at a place is the one that is wanted there: it has its newline and is of
+-- that form, and behind the last form there is no line
 abbrev pub Fits : Option LineForm → Option Line → Type 0
 Fits None None = Unit {0}
 Fits None (Some l) = ⊥
 Fits (Some form) None = ⊥
 Fits (Some form) (Some l) = (l.ended ≡ true) × IsOfForm form l.text
 
--- the number, counted from 1, of the first line that isn't the one that is wanted; a line that isn't there counts
+-- the number, counted from 1, of the first line that isn't the one that is wanted; a line that
+-- isn't there counts
 pub record IsFirstBad (forms : List LineForm) (lines : List Line) (number : ℕ) : Type 0 where
   pub place : ℕ
   pub number_is : number ≡ place + 1
@@ -98,6 +101,10 @@ pub record IsConfig (bytes name : List ℕ) (memory : ℕ) : Type 0 where
 
 -- a submit file: a program, and the memory in MiB that it asks for
 pub record IsSubmitFile (bytes program : List ℕ) (memory : ℕ) : Type 0 where
-  pub lines : lines_of bytes ≡ line (executable_line program) ∷ line (request_memory_line (decimal memory)) ∷ line (codes "queue") ∷ []
+  pub lines : lines_of bytes
+      ≡ line (executable_line program)
+      ∷ line (request_memory_line (decimal memory))
+      ∷ line (codes "queue")
+      ∷ []
   pub program_is : IsPath program
   pub memory_is : memory ≤ 1000000000

@@ -11,12 +11,14 @@ use Rattle.pool_master.specs.declared.status.Status.TheVariants as status
 use Rattle.pool_master.specs.Forms.{LineForm, Fits, IsFirstBad, IsConfig, IsSubmitFile, lines_of, config_forms, submit_forms}
 use Rattle.pool_master.specs.Words.{IsRun}
 
--- why a file is refused of which these lines are wanted: it isn't there, it is too long, or a line isn't of its form
+-- why a file is refused of which these lines are wanted: it isn't there, it is too long, or a line
+-- isn't of its form
 abbrev pub IsRefused : List LineForm → Option (List ℕ) → ℕ → Kind → Type 0
 IsRefused forms None line Missing = line ≡ 0
 IsRefused forms None line NotBuilt = ⊥
 IsRefused forms (Some bytes) line Missing = ⊥
-IsRefused forms (Some bytes) line NotBuilt = ((4096 < length bytes) × (line ≡ 0)) ⊎ ((length bytes ≤ 4096) × IsFirstBad forms (lines_of bytes) line)
+IsRefused forms (Some bytes) line NotBuilt = ((4096 < length bytes) × (line ≡ 0))
+    ⊎ ((length bytes ≤ 4096) × IsFirstBad forms (lines_of bytes) line)
 
 -- it is there, and each line is the one that is wanted
 pub record IsAccepted (forms : List LineForm) (file : Option (List ℕ)) : Type 0 where
@@ -37,19 +39,27 @@ pub record IsJobFile (file : Option (List ℕ)) (program : List ℕ) (memory : �
   pub short : length bytes ≤ 4096
   pub is : IsSubmitFile bytes program memory
 
--- of a configuration and a submit file, that one is refused at that line; the submit file only where the configuration isn't
+-- of a configuration and a submit file, that one is refused at that line; the submit file only
+-- where the configuration isn't
 abbrev pub IsRefusedOf : (List ℕ → Option (List ℕ)) → List ℕ → List ℕ → List ℕ → ℕ → Kind → Type 0
-IsRefusedOf file config submit name line kind = ((name ≡ config) × IsRefused config_forms (file config) line kind) ⊎ ((name ≡ submit) × IsAccepted config_forms (file config) × IsRefused submit_forms (file submit) line kind)
+IsRefusedOf file config submit name line kind =
+    ((name ≡ config) × IsRefused config_forms (file config) line kind)
+    ⊎ ((name ≡ submit)
+    × IsAccepted config_forms (file config)
+    × IsRefused submit_forms (file submit) line kind)
 
 -- the same, of the files that the words name
-pub record IsRefusedInput (file : List ℕ → Option (List ℕ)) (words : List (List ℕ)) (name : List ℕ) (line : ℕ) (kind : Kind) : Type 0 where
+pub record IsRefusedInput (file : List ℕ → Option (List ℕ)) (words : List (List ℕ)) (name : List ℕ)
+    (line : ℕ) (kind : Kind) : Type 0 where
   pub config : List ℕ
   pub submit : List ℕ
   pub words_are : IsRun words config submit
   pub refused : IsRefusedOf file config submit name line kind
 
--- a machine's name and memory are those of the configuration, and a program and its request those of the submit file
-pub record IsInputOf (file : List ℕ → Option (List ℕ)) (config submit : List ℕ) (name : List ℕ) (memory : ℕ) (program : List ℕ) (request : ℕ) : Type 0 where
+-- a machine's name and memory are those of the configuration, and a program and its request those
+-- of the submit file
+pub record IsInputOf (file : List ℕ → Option (List ℕ)) (config submit : List ℕ) (name : List ℕ)
+    (memory : ℕ) (program : List ℕ) (request : ℕ) : Type 0 where
   pub configured : IsConfigFile (file config) name memory
   pub submitted : IsJobFile (file submit) program request
 
@@ -80,11 +90,13 @@ abbrev pub IsFormStatus : List ℕ → FormError → Status → Type 0
 IsFormStatus name (form.Line line) s = IsInputAt name line NotBuilt s
 IsFormStatus name form.Memory s = s ≡ status.Memory
 
--- a status of a file of that name and content: refused at that line, or a fault of the disk, which has that cause, or want of memory
+-- a status of a file of that name and content: refused at that line, or a fault of the disk, which
+-- has that cause, or want of memory
 abbrev pub IsFileStatus : List LineForm → List ℕ → Option (List ℕ) → Status → Type 0
 IsFileStatus forms name file status.Done = ⊥
 IsFileStatus forms name file status.Usage = ⊥
-IsFileStatus forms name file (status.Input f line kind) = (f ≡ name) × IsRefused forms file line kind
+IsFileStatus forms name file (status.Input f line kind) = (f ≡ name)
+    × IsRefused forms file line kind
 IsFileStatus forms name file status.Stuck = ⊥
 IsFileStatus forms name file status.DiskFault = Unit {0}
 IsFileStatus forms name file status.OutFault = ⊥

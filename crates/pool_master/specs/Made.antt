@@ -1,4 +1,5 @@
--- The ads of a run's one slot and of its job (HTCondor manual, "Machine ClassAd Attributes", "Job ClassAd Attributes").
+-- The ads of a run's one slot and of its job (HTCondor manual, "Machine ClassAd Attributes", "Job
+-- ClassAd Attributes").
 use Rattle.std.specs.Prelude.{ℕ, pos, true, List, [], ◌∷◌, ◌++◌, codes}
 use Rattle.std.specs.Borrow.{Bor}
 use Rattle.ad_value.specs.Content.{truth, integer, text}
@@ -18,11 +19,14 @@ said bytes = literal (text bytes)
 
 -- TARGET.NAME >= REQUEST
 abbrev pub at_least : List ℕ → List ℕ → Tree
-at_least name request = chain (reference Target name) (and_rest GreaterEqual (reference Bare request) no_rests)
+at_least name request =
+    chain (reference Target name) (and_rest GreaterEqual (reference Bare request) no_rests)
 
 -- the other ad has as many processors, MiB of memory and KiB of disk as this one asks for
 abbrev pub enough : Tree
-enough = chain (at_least (codes "Cpus") (codes "RequestCpus")) (and_rest And (at_least (codes "Memory") (codes "RequestMemory")) (and_rest And (at_least (codes "Disk") (codes "RequestDisk")) no_rests))
+enough = chain (at_least (codes "Cpus") (codes "RequestCpus"))
+    (and_rest And (at_least (codes "Memory") (codes "RequestMemory"))
+    (and_rest And (at_least (codes "Disk") (codes "RequestDisk")) no_rests))
 
 -- the slot's name: the machine's, with the slot's number in front
 abbrev pub slot_name : List ℕ → List ℕ
@@ -47,7 +51,11 @@ slot_ad machine memory =
 
 -- the one slot of a machine, the first of the pool
 abbrev pub machine_slot : List ℕ → ℕ → SlotAd
-machine_slot machine memory = record { slot = record { machine = 0; slot = 1 }; name = slot_name machine; ad = slot_ad machine memory }
+machine_slot machine memory = record {
+  slot = record { machine = 0; slot = 1 };
+  name = slot_name machine;
+  ad = slot_ad machine memory;
+}
 
 -- the ad of a job that runs a program in so many MiB, submitted at a reading
 abbrev pub job_ad : List ℕ → ℕ → ℕ → Attributes

@@ -30,7 +30,8 @@ job_left p = has_unfinished p.jobs
 
 abbrev pub ClosesFrom : Option PoolValue → List Step → Bool → Type 0
 ClosesFrom None list left = ⊥
-ClosesFrom (Some opening) list left = (ends_in_close list ≡ true) × (job_left (pool_after opening list) ≡ left)
+ClosesFrom (Some opening) list left = (ends_in_close list ≡ true)
+    × (job_left (pool_after opening list) ≡ left)
 
 -- the history ends in a Close, and then a job is left or none is
 abbrev pub IsClosed : History → Bool → Type 0
@@ -38,10 +39,11 @@ IsClosed history left = ClosesFrom history.opening history.list left
 
 abbrev pub ReplaysFrom : Option PoolValue → List Step → Type 0
 ReplaysFrom None list = list ≡ []
-ReplaysFrom (Some opening) list = (opening ≡ opening_pool opening.slots) × LeadsTo opening list (pool_after opening list)
+ReplaysFrom (Some opening) list = (opening ≡ opening_pool opening.slots)
+    × LeadsTo opening list (pool_after opening list)
 
--- the history begins at the opening of a pool, without a load, and each of its events does what is defined; without a pool
--- it is empty
+-- the history begins at the opening of a pool, without a load, and each of its events does what is
+-- defined; without a pool it is empty
 pub record IsReplay (history : History) : Type 0 where
   pub replays : ReplaysFrom history.opening history.list
   pub no_load : history.load ≡ false
@@ -56,7 +58,8 @@ IsSafe history = IsSafeFrom history.opening history.list
 
 -- that job was submitted, once and alone, as an ad of the reading at which it was
 abbrev pub IsSubmitted : List ℕ → ℕ → List Step → Type 0
-IsSubmitted program request list = (reading : ℕ) × (submits list ≡ (job_ad program request reading ∷ [], reading) ∷ [])
+IsSubmitted program request list = (reading : ℕ)
+    × (submits list ≡ (job_ad program request reading ∷ [], reading) ∷ [])
 
 -- what is submitted is that job, if anything is yet, and it is once the history ends in a Close
 pub record Submits (program : List ℕ) (request : ℕ) (list : List Step) : Type 0 where
@@ -64,16 +67,19 @@ pub record Submits (program : List ℕ) (request : ℕ) (list : List Step) : Typ
   pub closed : ends_in_close list ≡ true → IsSubmitted program request list
 
 -- the pool is opened with the one slot of that machine, and that job is submitted
-pub record IsOfJob (name : List ℕ) (memory : ℕ) (program : List ℕ) (request : ℕ) (opening : PoolValue) (list : List Step) : Type 0 where
+pub record IsOfJob (name : List ℕ) (memory : ℕ) (program : List ℕ) (request : ℕ)
+    (opening : PoolValue) (list : List Step) : Type 0 where
   pub opening_is : opening ≡ opening_pool (machine_slot name memory ∷ [])
   pub submitted : Submits program request list
 
 abbrev pub OfJobFrom : List ℕ → ℕ → List ℕ → ℕ → Option PoolValue → List Step → Type 0
 OfJobFrom name memory program request None list = Unit {0}
-OfJobFrom name memory program request (Some opening) list = IsOfJob name memory program request opening list
+OfJobFrom name memory program request (Some opening) list =
+    IsOfJob name memory program request opening list
 
 -- the machine is that of the configuration, and the job that of the submit file
-pub record IsOfFiles (file : List ℕ → Option (List ℕ)) (config submit : List ℕ) (opening : PoolValue) (list : List Step) : Type 0 where
+pub record IsOfFiles (file : List ℕ → Option (List ℕ)) (config submit : List ℕ)
+    (opening : PoolValue) (list : List Step) : Type 0 where
   pub name : List ℕ
   pub memory : ℕ
   pub program : List ℕ
@@ -81,24 +87,28 @@ pub record IsOfFiles (file : List ℕ → Option (List ℕ)) (config submit : Li
   pub input : IsInputOf file config submit name memory program request
   pub of_job : IsOfJob name memory program request opening list
 
-abbrev pub OfFilesFrom : (List ℕ → Option (List ℕ)) → List ℕ → List ℕ → Option PoolValue → List Step → Type 0
+abbrev pub OfFilesFrom : (List ℕ → Option (List ℕ)) → List ℕ → List ℕ → Option PoolValue → List Step
+    → Type 0
 OfFilesFrom file config submit None list = Unit {0}
 OfFilesFrom file config submit (Some opening) list = IsOfFiles file config submit opening list
 
 -- they are those of the files that the words name
-pub record IsOfInput (file : List ℕ → Option (List ℕ)) (words : List (List ℕ)) (opening : PoolValue) (list : List Step) : Type 0 where
+pub record IsOfInput (file : List ℕ → Option (List ℕ)) (words : List (List ℕ)) (opening : PoolValue)
+    (list : List Step) : Type 0 where
   pub config : List ℕ
   pub submit : List ℕ
   pub words_are : IsRun words config submit
   pub files : IsOfFiles file config submit opening list
 
-abbrev pub OfInputFrom : (List ℕ → Option (List ℕ)) → List (List ℕ) → Option PoolValue → List Step → Type 0
+abbrev pub OfInputFrom : (List ℕ → Option (List ℕ)) → List (List ℕ) → Option PoolValue → List Step
+    → Type 0
 OfInputFrom file words None list = Unit {0}
 OfInputFrom file words (Some opening) list = IsOfInput file words opening list
 
 -- what was written besides is a front of the history's user log
 abbrev pub WritesPart : History → List ℕ → List ℕ → Type 0
-WritesPart history old new = (text : List ℕ) → IsUserLog history text → (n : ℕ) × (new ≡ old ++ take n text)
+WritesPart history old new = (text : List ℕ) → IsUserLog history text
+    → (n : ℕ) × (new ≡ old ++ take n text)
 
 -- it is the history's user log
 pub record WritesAll (history : History) (old new : List ℕ) : Type 0 where
@@ -135,20 +145,28 @@ IsStatusToday status.Memory = Unit {0}
 IsStatusToday (status.BadLog line) = ⊥
 IsStatusToday (status.Limit which) = ⊥
 
--- what a pool's part of a run leaves, whatever its files are: its history beside the clock, the spawner and the sink, and the statuses
--- that come of it
-pub record PoolRuns (allows : ℕ → Type 0) (tells : Bool) (launches : List Launch) (seen : ℕ → ChildState) (killed : ℕ → Bool) (spawn_before spawn_now : ℕ) (writes : Bool) (old new : List ℕ) (out_before out_now : ℕ) (s : Status) (history : History) : Type 0 where
+-- what a pool's part of a run leaves, whatever its files are: its history beside the clock, the
+-- spawner and the sink, and the statuses that come of it
+pub record PoolRuns (allows : ℕ → Type 0) (tells : Bool) (launches : List Launch)
+    (seen : ℕ → ChildState) (killed : ℕ → Bool) (spawn_before spawn_now : ℕ) (writes : Bool)
+    (old new : List ℕ) (out_before out_now : ℕ) (s : Status) (history : History) : Type 0 where
   pub replay : IsReplay history
   pub safe : IsSafe history
   pub follows : Follows allows tells launches seen killed spawn_before spawn_now history.list
-  pub all_launched : tells ≡ true → (left : Bool) → IsClosed history left → launches ≡ launches_of (started_runs history.list)
+  pub all_launched : tells ≡ true → (left : Bool) → IsClosed history left
+      → launches ≡ launches_of (started_runs history.list)
   pub written : writes ≡ true → WritesPart history old new
-  pub all_written : writes ≡ true → (s ≡ status.Done) ⊎ ((s ≡ status.Stuck) ⊎ (s ≡ status.DiskFault)) → WritesAll history old new
+  pub all_written : writes ≡ true
+      → (s ≡ status.Done) ⊎ ((s ≡ status.Stuck) ⊎ (s ≡ status.DiskFault))
+      → WritesAll history old new
   pub done : s ≡ status.Done → IsClosed history false × (out_now ≡ out_before)
-  pub done_comes : IsClosed history false → ¬ Rose out_before out_now → (s ≡ status.Done) ⊎ (s ≡ status.Memory)
+  pub done_comes : IsClosed history false → ¬ Rose out_before out_now
+      → (s ≡ status.Done) ⊎ (s ≡ status.Memory)
   pub stuck : s ≡ status.Stuck → IsClosed history true × (out_now ≡ out_before)
-  pub stuck_comes : IsClosed history true → ¬ Rose out_before out_now → (s ≡ status.Stuck) ⊎ (s ≡ status.Memory)
-  pub out_fault : s ≡ status.OutFault → Rose out_before out_now × ((left : Bool) × IsClosed history left)
+  pub stuck_comes : IsClosed history true → ¬ Rose out_before out_now
+      → (s ≡ status.Stuck) ⊎ (s ≡ status.Memory)
+  pub out_fault : s ≡ status.OutFault
+      → Rose out_before out_now × ((left : Bool) × IsClosed history left)
 
 -- a status that comes once the files were read
 abbrev pub IsLate : Status → Type 0
@@ -162,7 +180,8 @@ IsLate status.Memory = Unit {0}
 IsLate (status.BadLog line) = ⊥
 IsLate (status.Limit which) = ⊥
 
--- how a run ends whose pool was closed, with a job left or not, by the sink's count of faults before and after
+-- how a run ends whose pool was closed, with a job left or not, by the sink's count of faults
+-- before and after
 abbrev pub IsPrinted : Bool → ℕ → ℕ → Status → Type 0
 IsPrinted left before now status.Done = (left ≡ false) × (now ≡ before)
 IsPrinted left before now status.Usage = ⊥

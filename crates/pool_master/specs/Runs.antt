@@ -45,7 +45,8 @@ launch_on before (s ∷ ss) = launch_on (on_behind before s.event s.kept) ss
 
 abbrev pub runs_from : Option Launch → List Step → List Run
 runs_from before [] = []
-runs_from before (s ∷ ss) = ended_by before s.event ++ runs_from (on_behind before s.event s.kept) ss
+runs_from before (s ∷ ss) = ended_by before s.event
+    ++ runs_from (on_behind before s.event s.kept) ss
 
 -- the launch that is on at the end of a history
 abbrev pub on_run : List Step → Option Launch
@@ -83,7 +84,8 @@ launches_of runs = map (λ r. r.launch) runs
 
 -- what was launched is, in order, each of these runs, and perhaps the one that is on
 abbrev pub LaunchedBy : List Run → Option Launch → List Launch → Type 0
-LaunchedBy runs on launches = (launches ≡ launches_of runs) ⊎ ((launch : Launch) × (on ≡ Some launch) × (launches ≡ launches_of runs ++ launch ∷ []))
+LaunchedBy runs on launches = (launches ≡ launches_of runs)
+    ⊎ ((launch : Launch) × (on ≡ Some launch) × (launches ≡ launches_of runs ++ launch ∷ []))
 
 -- what was launched is each run of a history that started, and perhaps the one that is on
 abbrev pub IsLaunched : List Step → List Launch → Type 0

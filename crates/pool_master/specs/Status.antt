@@ -29,7 +29,8 @@ abbrev pub line_of : Status → List ℕ
 line_of status.Done = []
 line_of status.Stuck = []
 line_of status.Usage = codes "usage: condor_pool run CONFIG SUBMIT"
-line_of (status.Input file line kind) = codes "input: " ++ (file ++ (codes ":" ++ (decimal line ++ (codes ": " ++ kind_name kind))))
+line_of (status.Input file line kind) = codes "input: "
+    ++ (file ++ (codes ":" ++ (decimal line ++ (codes ": " ++ kind_name kind))))
 line_of status.DiskFault = codes "disk fault"
 line_of status.OutFault = codes "output fault"
 line_of status.Memory = codes "out of memory"

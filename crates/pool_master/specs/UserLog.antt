@@ -25,33 +25,39 @@ pub record IsStamp (reading : ℕ) (text : List ℕ) : Type 0 where
 
 -- in decimal, with zeros in front up to three digits
 abbrev pub three_digits : ℕ → List ℕ
-three_digits n = if nat_lt n 10 then codes "00" ++ decimal n else (if nat_lt n 100 then codes "0" ++ decimal n else decimal n)
+three_digits n = if nat_lt n 10 then codes "00" ++ decimal n
+    else (if nat_lt n 100 then codes "0" ++ decimal n else decimal n)
 
 -- `(CLUSTER.PROC.000)`, the numbers of a job
 abbrev pub numbers_text : ℕ → ℕ → List ℕ
-numbers_text cluster proc = codes "(" ++ (three_digits cluster ++ (codes "." ++ (three_digits proc ++ codes ".000)")))
+numbers_text cluster proc = codes "("
+    ++ (three_digits cluster ++ (codes "." ++ (three_digits proc ++ codes ".000)")))
 
 -- an event of the log: its number, the job's numbers, the date and time, and what it says
 pub record IsEntry (number : List ℕ) (cluster proc reading : ℕ) (said text : List ℕ) : Type 0 where
   pub stamp : List ℕ
   pub stamp_is : IsStamp reading stamp
-  pub is : text ≡ number ++ (codes " " ++ (numbers_text cluster proc ++ (codes " " ++ (stamp ++ (codes " " ++ said)))))
+  pub is : text ≡ number
+      ++ (codes " " ++ (numbers_text cluster proc ++ (codes " " ++ (stamp ++ (codes " " ++ said)))))
 
 abbrev pub submitted_text : List ℕ
 submitted_text = codes "Job submitted from host: <pool>\n...\n"
 
 -- the line of a submission of so many jobs (HTCondor manual, condor_submit)
 abbrev pub submission_text : ℕ → ℕ → List ℕ
-submission_text count cluster = decimal count ++ (codes " job(s) submitted to cluster " ++ (decimal cluster ++ codes ".\n"))
+submission_text count cluster = decimal count
+    ++ (codes " job(s) submitted to cluster " ++ (decimal cluster ++ codes ".\n"))
 
 abbrev pub executing_text : List ℕ → List ℕ
 executing_text slot = codes "Job executing on host: <" ++ (slot ++ codes ">\n...\n")
 
 abbrev pub exited_text : ℤ → List ℕ
-exited_text code = codes "Job terminated.\n\t(1) Normal termination (return value " ++ (signed_decimal code ++ codes ")\n...\n")
+exited_text code = codes "Job terminated.\n\t(1) Normal termination (return value "
+    ++ (signed_decimal code ++ codes ")\n...\n")
 
 abbrev pub signalled_text : ℤ → List ℕ
-signalled_text signal = codes "Job terminated.\n\t(0) Abnormal termination (signal " ++ (signed_decimal signal ++ codes ")\n...\n")
+signalled_text signal = codes "Job terminated.\n\t(0) Abnormal termination (signal "
+    ++ (signed_decimal signal ++ codes ")\n...\n")
 
 abbrev pub held_text : List ℕ
 held_text = codes "Job was held.\n\tFailed to start\n...\n"
@@ -67,7 +73,8 @@ name_of slots slot = name_in (slot_at slot slots)
 abbrev pub next_end : JobId → Event → Bool → Bool
 next_end job (Submit jobs reading) later = later
 next_end job (Start other slot judged reading) later = later
-next_end job (Ended other end reading) later = if same_job job other then is_not_started end else later
+next_end job (Ended other end reading) later =
+    if same_job job other then is_not_started end else later
 next_end job (Close reading none) later = later
 
 -- the job's run that is on before these events ends as one that didn't start
@@ -78,27 +85,37 @@ never_starts job (s ∷ ss) = next_end job s.event (never_starts job ss)
 -- the entries of so many jobs that are submitted, from a proc on
 abbrev pub AreEntries : ℕ → ℕ → ℕ → ℕ → List ℕ → Type 0
 AreEntries cluster proc zero reading text = text ≡ []
-AreEntries cluster proc (suc count) reading text = (first rest : List ℕ) × (text ≡ first ++ rest) × IsEntry (codes "000") cluster proc reading submitted_text first × AreEntries cluster (proc + 1) count reading rest
+AreEntries cluster proc (suc count) reading text = (first rest : List ℕ) × (text ≡ first ++ rest)
+    × IsEntry (codes "000") cluster proc reading submitted_text first
+    × AreEntries cluster (proc + 1) count reading rest
 
 -- what a submission of so many jobs prints: their entries, and its line
 abbrev pub IsSubmitLines : ℕ → ℕ → ℕ → List ℕ → Type 0
-IsSubmitLines cluster count reading text = (entries : List ℕ) × (text ≡ entries ++ submission_text count cluster) × AreEntries cluster 0 count reading entries
+IsSubmitLines cluster count reading text = (entries : List ℕ)
+    × (text ≡ entries ++ submission_text count cluster) × AreEntries cluster 0 count reading entries
 
 -- what the start of a run prints: nothing where it never starts
 abbrev pub IsStartLines : Bool → JobId → List ℕ → ℕ → List ℕ → Type 0
 IsStartLines true job slot reading text = text ≡ []
-IsStartLines false job slot reading text = IsEntry (codes "001") job.cluster job.proc reading (executing_text slot) text
+IsStartLines false job slot reading text =
+    IsEntry (codes "001") job.cluster job.proc reading (executing_text slot) text
 
 -- what the end of a run prints
 abbrev pub IsEndLines : End → JobId → ℕ → List ℕ → Type 0
-IsEndLines (Exited code) job reading text = IsEntry (codes "005") job.cluster job.proc reading (exited_text code) text
-IsEndLines (Signalled signal) job reading text = IsEntry (codes "005") job.cluster job.proc reading (signalled_text signal) text
-IsEndLines NotStarted job reading text = IsEntry (codes "012") job.cluster job.proc reading held_text text
+IsEndLines (Exited code) job reading text =
+    IsEntry (codes "005") job.cluster job.proc reading (exited_text code) text
+IsEndLines (Signalled signal) job reading text =
+    IsEntry (codes "005") job.cluster job.proc reading (signalled_text signal) text
+IsEndLines NotStarted job reading text =
+    IsEntry (codes "012") job.cluster job.proc reading held_text text
 
--- what an event prints in a pool of these slots, before which so many clusters were submitted, and behind which these steps come
+-- what an event prints in a pool of these slots, before which so many clusters were submitted, and
+-- behind which these steps come
 abbrev pub IsLines : List SlotAd → ℕ → List Step → Event → List ℕ → Type 0
-IsLines slots clusters behind (Submit jobs reading) text = IsSubmitLines (clusters + 1) (length jobs) reading text
-IsLines slots clusters behind (Start job slot judged reading) text = IsStartLines (never_starts job behind) job (name_of slots slot) reading text
+IsLines slots clusters behind (Submit jobs reading) text =
+    IsSubmitLines (clusters + 1) (length jobs) reading text
+IsLines slots clusters behind (Start job slot judged reading) text =
+    IsStartLines (never_starts job behind) job (name_of slots slot) reading text
 IsLines slots clusters behind (Ended job end reading) text = IsEndLines end job reading text
 IsLines slots clusters behind (Close reading none) text = text ≡ []
 
@@ -112,7 +129,9 @@ clusters_with clusters (Close reading none) = clusters
 -- what these events print, one after the other
 abbrev pub ArePrinted : List SlotAd → ℕ → List Step → List ℕ → Type 0
 ArePrinted slots clusters [] text = text ≡ []
-ArePrinted slots clusters (s ∷ ss) text = (first rest : List ℕ) × (text ≡ first ++ rest) × IsLines slots clusters ss s.event first × ArePrinted slots (clusters_with clusters s.event) ss rest
+ArePrinted slots clusters (s ∷ ss) text = (first rest : List ℕ) × (text ≡ first ++ rest)
+    × IsLines slots clusters ss s.event first
+    × ArePrinted slots (clusters_with clusters s.event) ss rest
 
 abbrev pub IsLogOf : Option PoolValue → List Step → List ℕ → Type 0
 IsLogOf None steps text = text ≡ []

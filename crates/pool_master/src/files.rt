@@ -54,11 +54,15 @@ impl From<AllocError> for ReadError {
 
 /// All the bytes of a file, of at most 4,096 bytes.
 pub fn read_file<D: Store>(alloc: Global, store: &mut D, name: &str) -> Result<Vec<u8>, ReadError>
-    ensures bytes { D.tells store.old ≡ true → IfOk result (λ bytes. D.file store.old name.now ≡ Some bytes.items) }
+    ensures bytes { D.tells store.old ≡ true
+        → IfOk result (λ bytes. D.file store.old name.now ≡ Some bytes.items) }
     ensures short { IfOk result (λ bytes. length bytes.items ≤ MOST_BYTES) }
-    ensures missing { D.tells store.old ≡ true → IsErrOf result ReadError.Missing → D.file store.old name.now ≡ None }
-    ensures too_long { D.tells store.old ≡ true → IsErrOf result ReadError.TooLong → (n : ℕ) × (option_map length (D.file store.old name.now) ≡ Some n) × (MOST_BYTES < n) }
-    ensures same { D.tells store.old ≡ true → SameFiles (D.file store.old) (D.file store.new) (D.solid store.old) (D.solid store.new) }
+    ensures missing { D.tells store.old ≡ true → IsErrOf result ReadError.Missing
+        → D.file store.old name.now ≡ None }
+    ensures too_long { D.tells store.old ≡ true → IsErrOf result ReadError.TooLong
+        → (n : ℕ) × (option_map length (D.file store.old name.now) ≡ Some n) × (MOST_BYTES < n) }
+    ensures same { D.tells store.old ≡ true
+        → SameFiles (D.file store.old) (D.file store.new) (D.solid store.old) (D.solid store.new) }
     ensures told { D.tells store.new ≡ D.tells store.old }
     ensures cause { HasCause Failed (D.faults store.old) (D.faults store.new) result }
 {

@@ -49,7 +49,8 @@ impl From<Memory> for FormError {
 pub fn config_of(alloc: Global, bytes: &[u8]) -> Result<Config, FormError>
     ensures ok { IfOk result (λ c. IsConfig bytes.now c.name c.memory) }
     ensures small { IfOk result (λ c. c.memory ≤ 1000000000) }
-    ensures bad { IfErr result (λ e. (n : ℕ) → e ≡ FormError.Line n → IsFirstBad config_forms (lines_of bytes.now) n) }
+    ensures bad { IfErr result (λ e. (n : ℕ) → e ≡ FormError.Line n
+        → IsFirstBad config_forms (lines_of bytes.now) n) }
 {
     let Some((name, rest)) = machine(bytes) else {
         return Err(FormError::Line(1));
@@ -66,11 +67,13 @@ pub fn config_of(alloc: Global, bytes: &[u8]) -> Result<Config, FormError>
     })
 }
 
-/// The job that a submit file's bytes ask for: the lines `executable = PATH`, `request_memory = N` and `queue`.
+/// The job that a submit file's bytes ask for: the lines `executable = PATH`, `request_memory = N`
+/// and `queue`.
 pub fn submit_of(alloc: Global, bytes: &[u8]) -> Result<SubmitFile, FormError>
     ensures ok { IfOk result (λ s. IsSubmitFile bytes.now s.program s.memory) }
     ensures small { IfOk result (λ s. s.memory ≤ 1000000000) }
-    ensures bad { IfErr result (λ e. (n : ℕ) → e ≡ FormError.Line n → IsFirstBad submit_forms (lines_of bytes.now) n) }
+    ensures bad { IfErr result (λ e. (n : ℕ) → e ≡ FormError.Line n
+        → IsFirstBad submit_forms (lines_of bytes.now) n) }
 {
     let Some((program, rest)) = executable(bytes) else {
         return Err(FormError::Line(1));
@@ -94,7 +97,8 @@ pub fn submit_of(alloc: Global, bytes: &[u8]) -> Result<SubmitFile, FormError>
 fn machine(bytes: &[u8]) -> Option<(&str, &[u8])>
     ensures { MatchOption result
         (Fits (Some MachineLine) (slice_get (lines_of bytes.now) 0) → ⊥)
-        (λ p. (lines_of bytes.now ≡ line (machine_line p.0.now) ∷ lines_of p.1.now) × IsName p.0.now) }
+        (λ p. (lines_of bytes.now ≡ line (machine_line p.0.now) ∷ lines_of p.1.now)
+        × IsName p.0.now) }
 {
     let (name, rest) = value(bytes, b"MACHINE = ")?;
     if !is_name(name) {
@@ -107,7 +111,8 @@ fn machine(bytes: &[u8]) -> Option<(&str, &[u8])>
 fn executable(bytes: &[u8]) -> Option<(&str, &[u8])>
     ensures { MatchOption result
         (Fits (Some ExecutableLine) (slice_get (lines_of bytes.now) 0) → ⊥)
-        (λ p. (lines_of bytes.now ≡ line (executable_line p.0.now) ∷ lines_of p.1.now) × IsPath p.0.now) }
+        (λ p. (lines_of bytes.now ≡ line (executable_line p.0.now) ∷ lines_of p.1.now)
+        × IsPath p.0.now) }
 {
     let (path, rest) = value(bytes, b"executable = ")?;
     if !is_path(path) {
@@ -119,8 +124,10 @@ fn executable(bytes: &[u8]) -> Option<(&str, &[u8])>
 // The amount behind that name on the first line, and what follows the line.
 fn amount<'a>(bytes: &'a [u8], name: &[u8]) -> Option<(u64, &'a [u8])>
     ensures { MatchOption result
-        ((digits : List ℕ) (n : ℕ) → IsAmount digits n → (rest : List Line) → lines_of bytes.now ≢ line (name.now ++ digits) ∷ rest)
-        (λ p. (lines_of bytes.now ≡ line (name.now ++ decimal p.0) ∷ lines_of p.1.now) × (p.0 ≤ 1000000000)) }
+        ((digits : List ℕ) (n : ℕ) → IsAmount digits n
+        → (rest : List Line) → lines_of bytes.now ≢ line (name.now ++ digits) ∷ rest)
+        (λ p. (lines_of bytes.now ≡ line (name.now ++ decimal p.0) ∷ lines_of p.1.now)
+        × (p.0 ≤ 1000000000)) }
 {
     let (digits, rest) = value(bytes, name)?;
     Some((number(digits)?, rest))
@@ -148,7 +155,8 @@ fn value<'a>(bytes: &'a [u8], name: &[u8]) -> Option<(&'a [u8], &'a [u8])>
 
 // What follows a prefix of a line.
 fn after_prefix<'a>(line: &'a [u8], prefix: &[u8]) -> Option<&'a [u8]>
-    ensures { MatchOption result ((rest : List ℕ) → line.now ≢ prefix.now ++ rest) (λ rest. line.now ≡ prefix.now ++ rest.now) }
+    ensures { MatchOption result ((rest : List ℕ) → line.now ≢ prefix.now ++ rest)
+        (λ rest. line.now ≡ prefix.now ++ rest.now) }
 {
     line.strip_prefix(prefix)
 }

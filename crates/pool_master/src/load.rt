@@ -13,12 +13,16 @@ use std::alloc::Global;
 
 /// Reads a configuration; its status says why where it can't be had.
 pub fn load_config<D: Store>(alloc: Global, store: &mut D, name: &str) -> Result<Config, Status>
-    ensures ok { D.tells store.old ≡ true → IfOk result (λ c. IsConfigFile (D.file store.old name.now) c.name c.memory) }
+    ensures ok { D.tells store.old ≡ true
+        → IfOk result (λ c. IsConfigFile (D.file store.old name.now) c.name c.memory) }
     ensures small { IfOk result (λ c. c.memory ≤ 1000000000) }
-    ensures status { D.tells store.old ≡ true → IfErr result (IsFileStatus config_forms name.now (D.file store.old name.now)) }
+    ensures status { D.tells store.old ≡ true
+        → IfErr result (IsFileStatus config_forms name.now (D.file store.old name.now)) }
     ensures early { IfErr result IsEarly }
-    ensures disk_fault { IfErr result (λ s. s ≡ Status.DiskFault → Rose (D.faults store.old) (D.faults store.new)) }
-    ensures same { D.tells store.old ≡ true → SameFiles (D.file store.old) (D.file store.new) (D.solid store.old) (D.solid store.new) }
+    ensures disk_fault { IfErr result
+        (λ s. s ≡ Status.DiskFault → Rose (D.faults store.old) (D.faults store.new)) }
+    ensures same { D.tells store.old ≡ true
+        → SameFiles (D.file store.old) (D.file store.new) (D.solid store.old) (D.solid store.new) }
     ensures told { D.tells store.new ≡ D.tells store.old }
     ensures later { D.faults store.old ≤ D.faults store.new }
 {
@@ -33,12 +37,16 @@ pub fn load_config<D: Store>(alloc: Global, store: &mut D, name: &str) -> Result
 
 /// Reads a submit file; its status says why where it can't be had.
 pub fn load_submit<D: Store>(alloc: Global, store: &mut D, name: &str) -> Result<SubmitFile, Status>
-    ensures ok { D.tells store.old ≡ true → IfOk result (λ f. IsJobFile (D.file store.old name.now) f.program f.memory) }
+    ensures ok { D.tells store.old ≡ true
+        → IfOk result (λ f. IsJobFile (D.file store.old name.now) f.program f.memory) }
     ensures small { IfOk result (λ f. f.memory ≤ 1000000000) }
-    ensures status { D.tells store.old ≡ true → IfErr result (IsFileStatus submit_forms name.now (D.file store.old name.now)) }
+    ensures status { D.tells store.old ≡ true
+        → IfErr result (IsFileStatus submit_forms name.now (D.file store.old name.now)) }
     ensures early { IfErr result IsEarly }
-    ensures disk_fault { IfErr result (λ s. s ≡ Status.DiskFault → Rose (D.faults store.old) (D.faults store.new)) }
-    ensures same { D.tells store.old ≡ true → SameFiles (D.file store.old) (D.file store.new) (D.solid store.old) (D.solid store.new) }
+    ensures disk_fault { IfErr result
+        (λ s. s ≡ Status.DiskFault → Rose (D.faults store.old) (D.faults store.new)) }
+    ensures same { D.tells store.old ≡ true
+        → SameFiles (D.file store.old) (D.file store.new) (D.solid store.old) (D.solid store.new) }
     ensures told { D.tells store.new ≡ D.tells store.old }
     ensures later { D.faults store.old ≤ D.faults store.new }
 {

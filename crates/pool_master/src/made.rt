@@ -8,7 +8,8 @@ use ad_value::{Memory, Text, Value};
 use pool_core::{SlotAd, SlotId};
 use std::alloc::Global;
 
-/// What an attribute is set to: an integer, a string, a truth value, a bare name, or that the other ad has what this one asks for.
+/// What an attribute is set to: an integer, a string, a truth value, a bare name, or that the other
+/// ad has what this one asks for.
 #[derive(Clone, Copy, Debug)]
 pub(crate) enum Given<'a> {
     Whole(u64),

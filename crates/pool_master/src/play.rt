@@ -40,8 +40,8 @@ pub(crate) enum Next {
     Start { pair: Pair },
 }
 
-/// Submits the job of a submit file, runs each idle job that matches a slot, one after the other, and closes the pool once none
-/// does. Want of memory leaves the course where it has come to.
+/// Submits the job of a submit file, runs each idle job that matches a slot, one after the other,
+/// and closes the pool once none does. Want of memory leaves the course where it has come to.
 pub fn play<R: Wait, C: Clock, P: Spawner>(
     rt: &R,
     alloc: Global,
@@ -55,10 +55,14 @@ pub fn play<R: Wait, C: Clock, P: Spawner>(
     requires opened { course.old.pool ≡ opening_pool course.old.pool.slots }
     requires slots { AreNumberedOnce course.old.pool.slots }
     requires small { file.now.memory < 2 ^ 63 }
-    ensures follows { Follows (C.allows clock.now) (P.tells spawner.old) (P.launches spawner.new) (P.seen spawner.new) (P.killed spawner.new) (P.faults spawner.old) (P.faults spawner.new) course.new.list }
-    ensures between { OnOk result (IsBetween (P.tells spawner.old) (P.launches spawner.new) course.new.list) }
+    ensures follows { Follows (C.allows clock.now) (P.tells spawner.old) (P.launches spawner.new)
+        (P.seen spawner.new) (P.killed spawner.new) (P.faults spawner.old) (P.faults spawner.new)
+        course.new.list }
+    ensures between { OnOk result
+        (IsBetween (P.tells spawner.old) (P.launches spawner.new) course.new.list) }
     ensures submitted { OnOk result (IsSubmitted file.now.program file.now.memory course.new.list) }
-    ensures partly { (submits course.new.list ≡ []) ⊎ IsSubmitted file.now.program file.now.memory course.new.list }
+    ensures partly { (submits course.new.list ≡ [])
+        ⊎ IsSubmitted file.now.program file.now.memory course.new.list }
     ensures closed { IsTrue (is_ok result) ↔ (course.new.pool.closed ≡ true) }
     ensures opening { course.new.opening ≡ course.old.opening }
 {
@@ -76,7 +80,9 @@ fn submit<C: Clock>(
 ) -> Result<(), Memory>
     requires opened { course.old.pool ≡ opening_pool course.old.pool.slots }
     requires small { file.now.memory < 2 ^ 63 }
-    ensures ok { OnOk result (HappensOnce (C.allows clock.now) (λ t. Submit (job_ad file.now.program file.now.memory t ∷ []) t) kept.Done course.old course.new) }
+    ensures ok { OnOk result (HappensOnce (C.allows clock.now)
+        (λ t. Submit (job_ad file.now.program file.now.memory t ∷ []) t)
+        kept.Done course.old course.new) }
     ensures err { OnErr result (course.new ≡ course.old) }
 {
     let reading = clock.read();
@@ -97,8 +103,15 @@ fn serve<R: Wait, C: Clock, P: Spawner>(
 ) -> Result<(), Memory>
     requires resting { IsResting course.old.pool }
     requires between { IsBetween (P.tells spawner.old) (P.launches spawner.old) course.old.list }
-    ensures follows { (before : ℕ) → Follows (C.allows clock.now) (P.tells spawner.old) (P.launches spawner.old) (P.seen spawner.old) (P.killed spawner.old) before (P.faults spawner.old) course.old.list → Follows (C.allows clock.now) (P.tells spawner.old) (P.launches spawner.new) (P.seen spawner.new) (P.killed spawner.new) before (P.faults spawner.new) course.new.list }
-    ensures between { OnOk result (IsBetween (P.tells spawner.old) (P.launches spawner.new) course.new.list) }
+    ensures follows { (before : ℕ)
+        → Follows (C.allows clock.now) (P.tells spawner.old) (P.launches spawner.old)
+        (P.seen spawner.old) (P.killed spawner.old) before (P.faults spawner.old)
+        course.old.list
+        → Follows (C.allows clock.now) (P.tells spawner.old) (P.launches spawner.new)
+        (P.seen spawner.new) (P.killed spawner.new) before (P.faults spawner.new)
+        course.new.list }
+    ensures between { OnOk result
+        (IsBetween (P.tells spawner.old) (P.launches spawner.new) course.new.list) }
     ensures submits { submits course.new.list ≡ submits course.old.list }
     ensures closed { IsTrue (is_ok result) ↔ (course.new.pool.closed ≡ true) }
     ensures opening { course.new.opening ≡ course.old.opening }
@@ -115,7 +128,8 @@ fn serve<R: Wait, C: Clock, P: Spawner>(
     }
 }
 
-// What the pool does at a reading: it closes where no idle job matches a slot, and else starts the first that does.
+// What the pool does at a reading: it closes where no idle job matches a slot, and else starts the
+// first that does.
 fn what_next(alloc: Global, pool: &Pool, reading: u64) -> Result<Next, Memory>
     requires { IsResting pool.now }
     ensures { IfOk result (λ next. refusal pool.now (event_of reading next) ≡ None) }
@@ -133,7 +147,8 @@ fn what_next(alloc: Global, pool: &Pool, reading: u64) -> Result<Next, Memory>
 // The idle job and the slot of a pair that was found.
 fn pair_at(pool: &Pool, found: FoundMatch, reading: u64) -> Pair
     requires resting { IsResting pool.now }
-    requires first { IsFirstMatch (idle_ads pool.now.jobs) (slot_ads pool.now.slots) reading found }
+    requires first { IsFirstMatch
+        (idle_ads pool.now.jobs) (slot_ads pool.now.slots) reading found }
     ensures { refusal pool.now (Start result.job result.slot result.judged reading) ≡ None }
 {
     let Some((job, _job_ad)) = pool.idle_job(found.job as usize) else {
@@ -158,7 +173,8 @@ fn slot_at(pool: &Pool, place: usize) -> Option<&SlotAd>
 
 fn close(alloc: Global, course: &mut Course, reading: u64, none: NoMatch) -> Result<(), Memory>
     requires { refusal course.old.pool (Close reading none) ≡ None }
-    ensures list { OnOk result (course.new.list ≡ course.old.list ++ record { event = Close reading none; kept = kept.Done } ∷ []) }
+    ensures list { OnOk result (course.new.list ≡ course.old.list
+        ++ record { event = Close reading none; kept = kept.Done } ∷ []) }
     ensures pool { OnOk result (course.new.pool ≡ after course.old.pool (Close reading none)) }
     ensures opening { course.new.opening ≡ course.old.opening }
     ensures err { OnErr result (course.new ≡ course.old) }
@@ -178,12 +194,20 @@ fn run_job<R: Wait, C: Clock, P: Spawner>(
     reading: u64,
 ) -> Result<(), Memory>
     requires resting { IsResting course.old.pool }
-    requires accepted { refusal course.old.pool (Start pair.job pair.slot pair.judged reading) ≡ None }
+    requires accepted { refusal course.old.pool (Start pair.job pair.slot pair.judged reading)
+        ≡ None }
     requires allowed { C.allows clock.now reading }
     requires in_range { reading ≤ 253402207200 }
     requires between { IsBetween (P.tells spawner.old) (P.launches spawner.old) course.old.list }
-    ensures follows { (before : ℕ) → Follows (C.allows clock.now) (P.tells spawner.old) (P.launches spawner.old) (P.seen spawner.old) (P.killed spawner.old) before (P.faults spawner.old) course.old.list → Follows (C.allows clock.now) (P.tells spawner.old) (P.launches spawner.new) (P.seen spawner.new) (P.killed spawner.new) before (P.faults spawner.new) course.new.list }
-    ensures between { OnOk result (IsBetween (P.tells spawner.old) (P.launches spawner.new) course.new.list) }
+    ensures follows { (before : ℕ)
+        → Follows (C.allows clock.now) (P.tells spawner.old) (P.launches spawner.old)
+        (P.seen spawner.old) (P.killed spawner.old) before (P.faults spawner.old)
+        course.old.list
+        → Follows (C.allows clock.now) (P.tells spawner.old) (P.launches spawner.new)
+        (P.seen spawner.new) (P.killed spawner.new) before (P.faults spawner.new)
+        course.new.list }
+    ensures between { OnOk result
+        (IsBetween (P.tells spawner.old) (P.launches spawner.new) course.new.list) }
     ensures submits { submits course.new.list ≡ submits course.old.list }
     ensures resting { OnOk result (IsResting course.new.pool) }
     ensures fewer { OnOk result (idle_count course.new.pool < idle_count course.old.pool) }
@@ -201,8 +225,13 @@ fn run_job<R: Wait, C: Clock, P: Spawner>(
 
 fn start(alloc: Global, course: &mut Course, pair: Pair, reading: u64) -> Result<Launch, Memory>
     requires { refusal course.old.pool (Start pair.job pair.slot pair.judged reading) ≡ None }
-    ensures list { IfOk result (λ what. course.new.list ≡ course.old.list ++ record { event = Start pair.job pair.slot pair.judged reading; kept = kept.Launch what } ∷ []) }
-    ensures pool { OnOk result (course.new.pool ≡ after course.old.pool (Start pair.job pair.slot pair.judged reading)) }
+    ensures list { IfOk result (λ what. course.new.list ≡ course.old.list
+        ++ record {
+          event = Start pair.job pair.slot pair.judged reading;
+          kept = kept.Launch what;
+        } ∷ []) }
+    ensures pool { OnOk result (course.new.pool ≡ after course.old.pool
+        (Start pair.job pair.slot pair.judged reading)) }
     ensures opening { course.new.opening ≡ course.old.opening }
     ensures err { OnErr result (course.new ≡ course.old) }
 {
@@ -223,7 +252,8 @@ fn start(alloc: Global, course: &mut Course, pair: Pair, reading: u64) -> Result
 fn act(alloc: Global, course: &mut Course, event: Event) -> Result<Answer, Memory>
     requires { refusal course.old.pool event ≡ None }
     ensures answer { IfOk result (λ a. a ≡ answer_to course.old.pool event) }
-    ensures list { OnOk result (course.new.list ≡ course.old.list ++ record { event = event; kept = kept_of (answer_to course.old.pool event) } ∷ []) }
+    ensures list { OnOk result (course.new.list ≡ course.old.list
+        ++ record { event = event; kept = kept_of (answer_to course.old.pool event) } ∷ []) }
     ensures pool { OnOk result (course.new.pool ≡ after course.old.pool event) }
     ensures opening { course.new.opening ≡ course.old.opening }
     ensures same { OnErr result (course.new ≡ course.old) }
@@ -241,12 +271,20 @@ fn run_child<R: Wait, P: Spawner>(
     spawner: &mut P,
     what: &Launch,
 ) -> Result<End, Memory>
-    ensures launched { P.tells spawner.old ≡ true → IfOk result (λ end. P.launches spawner.new ≡ P.launches spawner.old ++ launches_of (when_started what.now end)) }
-    ensures refused { P.tells spawner.old ≡ true → OnErr result (P.launches spawner.new ≡ P.launches spawner.old) }
-    ensures seen { P.tells spawner.old ≡ true → IfOk result (λ end. end ≢ NotStarted → P.seen spawner.new (P.count spawner.old) ≡ state_of end) }
-    ensures others { P.tells spawner.old ≡ true → (k : ℕ) → k ≢ P.count spawner.old → P.seen spawner.new k ≡ P.seen spawner.old k }
-    ensures spared { P.tells spawner.old ≡ true → (k : ℕ) → P.killed spawner.new k ≡ P.killed spawner.old k }
-    ensures not_started { IfOk result (λ end. end ≡ NotStarted → Rose (P.faults spawner.old) (P.faults spawner.new)) }
+    ensures launched { P.tells spawner.old ≡ true
+        → IfOk result (λ end. P.launches spawner.new
+        ≡ P.launches spawner.old ++ launches_of (when_started what.now end)) }
+    ensures refused { P.tells spawner.old ≡ true
+        → OnErr result (P.launches spawner.new ≡ P.launches spawner.old) }
+    ensures seen { P.tells spawner.old ≡ true
+        → IfOk result
+        (λ end. end ≢ NotStarted → P.seen spawner.new (P.count spawner.old) ≡ state_of end) }
+    ensures others { P.tells spawner.old ≡ true → (k : ℕ) → k ≢ P.count spawner.old
+        → P.seen spawner.new k ≡ P.seen spawner.old k }
+    ensures spared { P.tells spawner.old ≡ true → (k : ℕ)
+        → P.killed spawner.new k ≡ P.killed spawner.old k }
+    ensures not_started { IfOk result
+        (λ end. end ≡ NotStarted → Rose (P.faults spawner.old) (P.faults spawner.new)) }
     ensures later { P.faults spawner.old ≤ P.faults spawner.new }
     ensures told { P.tells spawner.new ≡ P.tells spawner.old }
 {

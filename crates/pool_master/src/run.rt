@@ -39,8 +39,8 @@ pub struct Ran<D, P> {
 
 /// Runs a pool, from the words of the command to the printed user log.
 ///
-/// The words are `run CONFIG SUBMIT`. Machine m launches on spawner m; today there is one machine. The gate and the secret key
-/// are for later pools.
+/// The words are `run CONFIG SUBMIT`. Machine m launches on spawner m; today there is one machine.
+/// The gate and the secret key are for later pools.
 pub fn run_pool<
     R: Threads + Wait + Sync + std::rt::Clock,
     D: Store + Send,
@@ -63,33 +63,65 @@ pub fn run_pool<
     requires idle { All (λ s. P.count s ≡ 0) spawners.items }
 
     ensures history { IsReplay result.history }
-    ensures history_input { D.tells store ≡ true → OfInputFrom (D.file store) (texts words.now) result.history.opening result.history.list }
+    ensures history_input { D.tells store ≡ true
+        → OfInputFrom (D.file store) (texts words.now) result.history.opening result.history.list }
     ensures history_readings { AreRead (C.allows clock.now) result.history.list }
     ensures safe { IsSafe result.history }
 
-    ensures launched { (s t : P) → slice_get spawners.items 0 ≡ Some s → slice_get result.spawners.items 0 ≡ Some t → P.tells s ≡ true → IsLaunched result.history.list (P.launches t) }
-    ensures all_launched { (s t : P) → slice_get spawners.items 0 ≡ Some s → slice_get result.spawners.items 0 ≡ Some t → P.tells s ≡ true → (left : Bool) → IsClosed result.history left → P.launches t ≡ launches_of (started_runs result.history.list) }
-    ensures ended { (s t : P) → slice_get spawners.items 0 ≡ Some s → slice_get result.spawners.items 0 ≡ Some t → P.tells s ≡ true → EndAsSeen (started_runs result.history.list) (P.seen t) }
-    ensures spared { (s t : P) → slice_get spawners.items 0 ≡ Some s → slice_get result.spawners.items 0 ≡ Some t → P.tells s ≡ true → (child : ℕ) → P.killed t child ≡ false }
-    ensures not_started { (s t : P) → slice_get spawners.items 0 ≡ Some s → slice_get result.spawners.items 0 ≡ Some t → RoseBy (not_started_count result.history.list) (P.faults s) (P.faults t) }
-    ensures other_spawners { (k : ℕ) → k ≢ 0 → slice_get result.spawners.items k ≡ slice_get spawners.items k }
+    ensures launched { (s t : P) → slice_get spawners.items 0 ≡ Some s
+        → slice_get result.spawners.items 0 ≡ Some t → P.tells s ≡ true
+        → IsLaunched result.history.list (P.launches t) }
+    ensures all_launched { (s t : P) → slice_get spawners.items 0 ≡ Some s
+        → slice_get result.spawners.items 0 ≡ Some t → P.tells s ≡ true → (left : Bool)
+        → IsClosed result.history left
+        → P.launches t ≡ launches_of (started_runs result.history.list) }
+    ensures ended { (s t : P) → slice_get spawners.items 0 ≡ Some s
+        → slice_get result.spawners.items 0 ≡ Some t → P.tells s ≡ true
+        → EndAsSeen (started_runs result.history.list) (P.seen t) }
+    ensures spared { (s t : P) → slice_get spawners.items 0 ≡ Some s
+        → slice_get result.spawners.items 0 ≡ Some t → P.tells s ≡ true → (child : ℕ)
+        → P.killed t child ≡ false }
+    ensures not_started { (s t : P) → slice_get spawners.items 0 ≡ Some s
+        → slice_get result.spawners.items 0 ≡ Some t
+        → RoseBy (not_started_count result.history.list) (P.faults s) (P.faults t) }
+    ensures other_spawners { (k : ℕ) → k ≢ 0
+        → slice_get result.spawners.items k ≡ slice_get spawners.items k }
 
-    ensures written { K.tells out.old ≡ true → WritesPart result.history (K.written out.old) (K.written out.new) }
-    ensures all_written { K.tells out.old ≡ true → (result.status ≡ Status.Done) ⊎ ((result.status ≡ Status.Stuck) ⊎ (result.status ≡ Status.DiskFault)) → WritesAll result.history (K.written out.old) (K.written out.new) }
+    ensures written { K.tells out.old ≡ true
+        → WritesPart result.history (K.written out.old) (K.written out.new) }
+    ensures all_written { K.tells out.old ≡ true
+        → (result.status ≡ Status.Done)
+        ⊎ ((result.status ≡ Status.Stuck) ⊎ (result.status ≡ Status.DiskFault))
+        → WritesAll result.history (K.written out.old) (K.written out.new) }
 
     ensures status_usage { result.status ≡ Status.Usage ↔ IsNoRun (texts words.now) }
-    ensures status_input { D.tells store ≡ true → (name : List ℕ) (line : ℕ) (kind : Kind) → result.status ≡ Status.Input name line kind → IsRefusedInput (D.file store) (texts words.now) name line kind }
-    ensures status_input_comes { D.tells store ≡ true → (name : List ℕ) (line : ℕ) (kind : Kind) → IsRefusedInput (D.file store) (texts words.now) name line kind → (result.status ≡ Status.Input name line kind) ⊎ ((result.status ≡ Status.DiskFault) ⊎ (result.status ≡ Status.Memory)) }
-    ensures status_done { result.status ≡ Status.Done → IsClosed result.history false × (K.faults out.new ≡ K.faults out.old) }
-    ensures status_done_comes { IsClosed result.history false → ¬ Rose (K.faults out.old) (K.faults out.new) → (result.status ≡ Status.Done) ⊎ (result.status ≡ Status.Memory) }
-    ensures status_stuck { result.status ≡ Status.Stuck → IsClosed result.history true × (K.faults out.new ≡ K.faults out.old) }
-    ensures status_stuck_comes { IsClosed result.history true → ¬ Rose (K.faults out.old) (K.faults out.new) → (result.status ≡ Status.Stuck) ⊎ (result.status ≡ Status.Memory) }
-    ensures status_disk_fault { result.status ≡ Status.DiskFault → Rose (D.faults store) (D.faults result.store) }
-    ensures status_out_fault { result.status ≡ Status.OutFault → Rose (K.faults out.old) (K.faults out.new) × ((left : Bool) × IsClosed result.history left) }
+    ensures status_input { D.tells store ≡ true → (name : List ℕ) (line : ℕ) (kind : Kind)
+        → result.status ≡ Status.Input name line kind
+        → IsRefusedInput (D.file store) (texts words.now) name line kind }
+    ensures status_input_comes { D.tells store ≡ true → (name : List ℕ) (line : ℕ) (kind : Kind)
+        → IsRefusedInput (D.file store) (texts words.now) name line kind
+        → (result.status ≡ Status.Input name line kind)
+        ⊎ ((result.status ≡ Status.DiskFault) ⊎ (result.status ≡ Status.Memory)) }
+    ensures status_done { result.status ≡ Status.Done
+        → IsClosed result.history false × (K.faults out.new ≡ K.faults out.old) }
+    ensures status_done_comes { IsClosed result.history false
+        → ¬ Rose (K.faults out.old) (K.faults out.new)
+        → (result.status ≡ Status.Done) ⊎ (result.status ≡ Status.Memory) }
+    ensures status_stuck { result.status ≡ Status.Stuck
+        → IsClosed result.history true × (K.faults out.new ≡ K.faults out.old) }
+    ensures status_stuck_comes { IsClosed result.history true
+        → ¬ Rose (K.faults out.old) (K.faults out.new)
+        → (result.status ≡ Status.Stuck) ⊎ (result.status ≡ Status.Memory) }
+    ensures status_disk_fault { result.status ≡ Status.DiskFault
+        → Rose (D.faults store) (D.faults result.store) }
+    ensures status_out_fault { result.status ≡ Status.OutFault
+        → Rose (K.faults out.old) (K.faults out.new)
+        × ((left : Bool) × IsClosed result.history left) }
     ensures status_early { EndsEarly result.status → HasNothing result.history }
     ensures status_today { IsStatusToday result.status }
 
-    ensures store { D.tells store ≡ true → SameFiles (D.file store) (D.file result.store) (D.solid store) (D.solid result.store) }
+    ensures store { D.tells store ≡ true
+        → SameFiles (D.file store) (D.file result.store) (D.solid store) (D.solid result.store) }
 {
     let spawner = &mut spawners[0];
     let (status, history) = run(rt, alloc, words, &mut store, clock, spawner, out);
@@ -113,15 +145,27 @@ fn run<R: Wait, D: Store, C: Clock, P: Spawner, K: Sink>(
     out: &mut K,
 ) -> (Status, History)
     requires idle { P.count spawner.old ≡ 0 }
-    ensures runs { PoolRuns (C.allows clock.now) (P.tells spawner.old) (P.launches spawner.new) (P.seen spawner.new) (P.killed spawner.new) (P.faults spawner.old) (P.faults spawner.new) (K.tells out.old) (K.written out.old) (K.written out.new) (K.faults out.old) (K.faults out.new) result.0 result.1 }
-    ensures history_input { D.tells store.old ≡ true → OfInputFrom (D.file store.old) (texts words.now) result.1.opening result.1.list }
+    ensures runs { PoolRuns (C.allows clock.now) (P.tells spawner.old) (P.launches spawner.new)
+        (P.seen spawner.new) (P.killed spawner.new) (P.faults spawner.old) (P.faults spawner.new)
+        (K.tells out.old) (K.written out.old) (K.written out.new) (K.faults out.old)
+        (K.faults out.new) result.0 result.1 }
+    ensures history_input { D.tells store.old ≡ true
+        → OfInputFrom (D.file store.old) (texts words.now) result.1.opening result.1.list }
     ensures status_usage { result.0 ≡ Status.Usage ↔ IsNoRun (texts words.now) }
-    ensures status_input { D.tells store.old ≡ true → (name : List ℕ) (line : ℕ) (kind : Kind) → result.0 ≡ Status.Input name line kind → IsRefusedInput (D.file store.old) (texts words.now) name line kind }
-    ensures status_input_comes { D.tells store.old ≡ true → (name : List ℕ) (line : ℕ) (kind : Kind) → IsRefusedInput (D.file store.old) (texts words.now) name line kind → (result.0 ≡ Status.Input name line kind) ⊎ ((result.0 ≡ Status.DiskFault) ⊎ (result.0 ≡ Status.Memory)) }
-    ensures status_disk_fault { result.0 ≡ Status.DiskFault → Rose (D.faults store.old) (D.faults store.new) }
+    ensures status_input { D.tells store.old ≡ true → (name : List ℕ) (line : ℕ) (kind : Kind)
+        → result.0 ≡ Status.Input name line kind
+        → IsRefusedInput (D.file store.old) (texts words.now) name line kind }
+    ensures status_input_comes { D.tells store.old ≡ true
+        → (name : List ℕ) (line : ℕ) (kind : Kind)
+        → IsRefusedInput (D.file store.old) (texts words.now) name line kind
+        → (result.0 ≡ Status.Input name line kind)
+        ⊎ ((result.0 ≡ Status.DiskFault) ⊎ (result.0 ≡ Status.Memory)) }
+    ensures status_disk_fault { result.0 ≡ Status.DiskFault
+        → Rose (D.faults store.old) (D.faults store.new) }
     ensures status_early { EndsEarly result.0 → HasNothing result.1 }
     ensures status_today { IsStatusToday result.0 }
-    ensures store { D.tells store.old ≡ true → SameFiles (D.file store.old) (D.file store.new) (D.solid store.old) (D.solid store.new) }
+    ensures store { D.tells store.old ≡ true
+        → SameFiles (D.file store.old) (D.file store.new) (D.solid store.old) (D.solid store.new) }
 {
     match named_by(words) {
         Some(named) => run_files(rt, alloc, named, store, clock, spawner, out),
@@ -140,14 +184,28 @@ fn run_files<R: Wait, D: Store, C: Clock, P: Spawner, K: Sink>(
     out: &mut K,
 ) -> (Status, History)
     requires idle { P.count spawner.old ≡ 0 }
-    ensures runs { PoolRuns (C.allows clock.now) (P.tells spawner.old) (P.launches spawner.new) (P.seen spawner.new) (P.killed spawner.new) (P.faults spawner.old) (P.faults spawner.new) (K.tells out.old) (K.written out.old) (K.written out.new) (K.faults out.old) (K.faults out.new) result.0 result.1 }
-    ensures files { D.tells store.old ≡ true → OfFilesFrom (D.file store.old) named.entry.config.now named.entry.submit.now result.1.opening result.1.list }
-    ensures refused { D.tells store.old ≡ true → (name : List ℕ) (line : ℕ) (kind : Kind) → result.0 ≡ Status.Input name line kind → IsRefusedOf (D.file store.old) named.entry.config.now named.entry.submit.now name line kind }
-    ensures refuses { D.tells store.old ≡ true → (name : List ℕ) (line : ℕ) (kind : Kind) → IsRefusedOf (D.file store.old) named.entry.config.now named.entry.submit.now name line kind → (result.0 ≡ Status.Input name line kind) ⊎ ((result.0 ≡ Status.DiskFault) ⊎ (result.0 ≡ Status.Memory)) }
-    ensures disk_fault { result.0 ≡ Status.DiskFault → Rose (D.faults store.old) (D.faults store.new) }
+    ensures runs { PoolRuns (C.allows clock.now) (P.tells spawner.old) (P.launches spawner.new)
+        (P.seen spawner.new) (P.killed spawner.new) (P.faults spawner.old) (P.faults spawner.new)
+        (K.tells out.old) (K.written out.old) (K.written out.new) (K.faults out.old)
+        (K.faults out.new) result.0 result.1 }
+    ensures files { D.tells store.old ≡ true
+        → OfFilesFrom (D.file store.old) named.entry.config.now named.entry.submit.now
+        result.1.opening result.1.list }
+    ensures refused { D.tells store.old ≡ true → (name : List ℕ) (line : ℕ) (kind : Kind)
+        → result.0 ≡ Status.Input name line kind
+        → IsRefusedOf (D.file store.old) named.entry.config.now named.entry.submit.now name line
+        kind }
+    ensures refuses { D.tells store.old ≡ true → (name : List ℕ) (line : ℕ) (kind : Kind)
+        → IsRefusedOf (D.file store.old) named.entry.config.now named.entry.submit.now name line
+        kind
+        → (result.0 ≡ Status.Input name line kind)
+        ⊎ ((result.0 ≡ Status.DiskFault) ⊎ (result.0 ≡ Status.Memory)) }
+    ensures disk_fault { result.0 ≡ Status.DiskFault
+        → Rose (D.faults store.old) (D.faults store.new) }
     ensures early { EndsEarly result.0 → HasNothing result.1 }
     ensures today { IsStatusToday result.0 × (result.0 ≢ Status.Usage) }
-    ensures store { D.tells store.old ≡ true → SameFiles (D.file store.old) (D.file store.new) (D.solid store.old) (D.solid store.new) }
+    ensures store { D.tells store.old ≡ true
+        → SameFiles (D.file store.old) (D.file store.new) (D.solid store.old) (D.solid store.new) }
 {
     match load(alloc, store, named) {
         Ok((config, file)) => run_job(rt, alloc, config, file, clock, spawner, out),
@@ -168,8 +226,12 @@ fn run_job<R: Wait, C: Clock, P: Spawner, K: Sink>(
     requires idle { P.count spawner.old ≡ 0 }
     requires machine_small { config.memory ≤ 1000000000 }
     requires job_small { file.memory ≤ 1000000000 }
-    ensures runs { PoolRuns (C.allows clock.now) (P.tells spawner.old) (P.launches spawner.new) (P.seen spawner.new) (P.killed spawner.new) (P.faults spawner.old) (P.faults spawner.new) (K.tells out.old) (K.written out.old) (K.written out.new) (K.faults out.old) (K.faults out.new) result.0 result.1 }
-    ensures job { OfJobFrom config.name config.memory file.program file.memory result.1.opening result.1.list }
+    ensures runs { PoolRuns (C.allows clock.now) (P.tells spawner.old) (P.launches spawner.new)
+        (P.seen spawner.new) (P.killed spawner.new) (P.faults spawner.old) (P.faults spawner.new)
+        (K.tells out.old) (K.written out.old) (K.written out.new) (K.faults out.old)
+        (K.faults out.new) result.0 result.1 }
+    ensures job { OfJobFrom config.name config.memory file.program file.memory result.1.opening
+        result.1.list }
     ensures late { IsLate result.0 }
 {
     match open(alloc, &config) {
@@ -181,7 +243,8 @@ fn run_job<R: Wait, C: Clock, P: Spawner, K: Sink>(
 // The pool of a machine.
 fn open(alloc: Global, config: &Config) -> Result<Course, Memory>
     requires { config.now.memory ≤ 1000000000 }
-    ensures opening { IfOk result (λ c. c.opening ≡ opening_pool (machine_slot config.now.name config.now.memory ∷ [])) }
+    ensures opening { IfOk result (λ c. c.opening ≡ opening_pool
+        (machine_slot config.now.name config.now.memory ∷ [])) }
     ensures list { IfOk result (λ c. c.list ≡ []) }
     ensures pool { IfOk result (λ c. c.pool ≡ c.opening) }
 {
@@ -208,8 +271,13 @@ fn run_course<R: Wait, C: Clock, P: Spawner, K: Sink>(
     requires opened { course.pool ≡ course.opening }
     requires slots { AreNumberedOnce course.opening.slots }
     requires small { file.memory ≤ 1000000000 }
-    ensures runs { PoolRuns (C.allows clock.now) (P.tells spawner.old) (P.launches spawner.new) (P.seen spawner.new) (P.killed spawner.new) (P.faults spawner.old) (P.faults spawner.new) (K.tells out.old) (K.written out.old) (K.written out.new) (K.faults out.old) (K.faults out.new) result.0 result.1 }
-    ensures job { (name : List ℕ) (memory : ℕ) → course.opening ≡ opening_pool (machine_slot name memory ∷ []) → OfJobFrom name memory file.program file.memory result.1.opening result.1.list }
+    ensures runs { PoolRuns (C.allows clock.now) (P.tells spawner.old) (P.launches spawner.new)
+        (P.seen spawner.new) (P.killed spawner.new) (P.faults spawner.old) (P.faults spawner.new)
+        (K.tells out.old) (K.written out.old) (K.written out.new) (K.faults out.old)
+        (K.faults out.new) result.0 result.1 }
+    ensures job { (name : List ℕ) (memory : ℕ)
+        → course.opening ≡ opening_pool (machine_slot name memory ∷ [])
+        → OfJobFrom name memory file.program file.memory result.1.opening result.1.list }
     ensures late { IsLate result.0 }
 {
     let played = play(rt, alloc, &mut course, clock, spawner, &file);
@@ -238,13 +306,24 @@ fn load<D: Store>(
     store: &mut D,
     named: Named<'_>,
 ) -> Result<(Config, SubmitFile), Status>
-    ensures ok { D.tells store.old ≡ true → IfOk result (λ i. IsInputOf (D.file store.old) named.entry.config.now named.entry.submit.now i.0.name i.0.memory i.1.program i.1.memory) }
-    ensures refused { D.tells store.old ≡ true → IfErr result (λ s. (name : List ℕ) (line : ℕ) (kind : Kind) → s ≡ Status.Input name line kind → IsRefusedOf (D.file store.old) named.entry.config.now named.entry.submit.now name line kind) }
-    ensures refuses { D.tells store.old ≡ true → (name : List ℕ) (line : ℕ) (kind : Kind) → IsRefusedOf (D.file store.old) named.entry.config.now named.entry.submit.now name line kind → IsErrAnd result (λ s. (s ≡ Status.Input name line kind) ⊎ ((s ≡ Status.DiskFault) ⊎ (s ≡ Status.Memory))) }
+    ensures ok { D.tells store.old ≡ true
+        → IfOk result (λ i. IsInputOf (D.file store.old) named.entry.config.now
+        named.entry.submit.now i.0.name i.0.memory i.1.program i.1.memory) }
+    ensures refused { D.tells store.old ≡ true
+        → IfErr result (λ s. (name : List ℕ) (line : ℕ) (kind : Kind) → s ≡ Status.Input name line
+        kind → IsRefusedOf (D.file store.old) named.entry.config.now named.entry.submit.now
+        name line kind) }
+    ensures refuses { D.tells store.old ≡ true → (name : List ℕ) (line : ℕ) (kind : Kind)
+        → IsRefusedOf (D.file store.old) named.entry.config.now named.entry.submit.now name line
+        kind
+        → IsErrAnd result (λ s. (s ≡ Status.Input name line kind)
+        ⊎ ((s ≡ Status.DiskFault) ⊎ (s ≡ Status.Memory))) }
     ensures small { IfOk result (λ i. (i.0.memory ≤ 1000000000) × (i.1.memory ≤ 1000000000)) }
     ensures early { IfErr result IsEarly }
-    ensures disk_fault { IfErr result (λ s. s ≡ Status.DiskFault → Rose (D.faults store.old) (D.faults store.new)) }
-    ensures same { D.tells store.old ≡ true → SameFiles (D.file store.old) (D.file store.new) (D.solid store.old) (D.solid store.new) }
+    ensures disk_fault { IfErr result
+        (λ s. s ≡ Status.DiskFault → Rose (D.faults store.old) (D.faults store.new)) }
+    ensures same { D.tells store.old ≡ true
+        → SameFiles (D.file store.old) (D.file store.new) (D.solid store.old) (D.solid store.new) }
 {
     let config = match load_config(alloc, store, named.config) {
         Ok(config) => config,
@@ -259,8 +338,11 @@ fn load<D: Store>(
 // Writes the user log of a history, and says how the run ended whose pool was closed so.
 fn print<K: Sink>(alloc: Global, history: &History, pool: &Pool, out: &mut K) -> Status
     requires { All (λ s. reading_of s.event ≤ 253402207200) history.now.list }
-    ensures written { K.tells out.old ≡ true → WritesPart history.now (K.written out.old) (K.written out.new) }
-    ensures all_written { K.tells out.old ≡ true → (result ≡ Status.Done) ⊎ (result ≡ Status.Stuck) → WritesAll history.now (K.written out.old) (K.written out.new) }
+    ensures written { K.tells out.old ≡ true
+        → WritesPart history.now (K.written out.old) (K.written out.new) }
+    ensures all_written { K.tells out.old ≡ true
+        → (result ≡ Status.Done) ⊎ (result ≡ Status.Stuck)
+        → WritesAll history.now (K.written out.old) (K.written out.new) }
     ensures printed { IsPrinted (job_left pool.now) (K.faults out.old) (K.faults out.new) result }
     ensures later { K.faults out.old ≤ K.faults out.new }
 {

@@ -182,7 +182,8 @@ fn entry_of(
     said: &str,
 ) -> Result<String, Memory>
     requires { reading ≤ 253402207200 }
-    ensures { IfOk result (λ t. IsEntry number.now job.cluster job.proc reading said.now (string_bytes t)) }
+    ensures { IfOk result
+        (λ t. IsEntry number.now job.cluster job.proc reading said.now (string_bytes t)) }
 {
     entry(
         alloc,

@@ -10,7 +10,8 @@ pub struct Named<'a> {
 
 /// The files that the words name, where these are of the form `run CONFIG SUBMIT`.
 pub fn named_by(words: &[String]) -> Option<Named<'_>>
-    ensures { MatchOption result (IsNoRun (texts words.now)) (λ n. IsRun (texts words.now) n.config.now n.submit.now) }
+    ensures { MatchOption result (IsNoRun (texts words.now))
+        (λ n. IsRun (texts words.now) n.config.now n.submit.now) }
 {
     let [run, config, submit] = words else {
         return None;
