@@ -169,8 +169,10 @@ impl Copied for Pool {
 }
 
 impl Pool {
-    /// One event. A refused one changes nothing. Takes memory for the answer, its equal and what the pool keeps of the event. A
-    /// Close walks over all jobs, and a Start over the slots up to its own; no other event's time grows with the pool.
+    /// One event. A refused one changes nothing. Takes memory for the answer, its equal and what the
+    /// pool keeps of the event. A Start computes in O(slots up to its own), an Ended in O(runs that
+    /// began later), a Close in O(jobs + slots), each times the size of the ads that it looks at; a
+    /// Submit's time does not grow with the pool.
     pub fn step(&mut self, alloc: Global, ev: &Event) -> Result<Stepped, StepError>
         ensures accepted { OnOk result (refusal self.old ev.now ≡ None) }
         ensures answer { IfOk result (λ s. s.answer ≡ answer_to self.old ev.now) }

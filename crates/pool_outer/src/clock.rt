@@ -18,6 +18,3 @@ pub trait Clock {
         ensures allowed { allows self.now result }
         ensures in_range { result ≤ LAST_READING };
 }
-
-#[cfg(test)]
-mod tests;

@@ -11,8 +11,6 @@ mod limit;
 mod sink;
 mod spawner;
 mod store;
-#[cfg(test)]
-mod tests;
 
 pub use clock::{Clock, LAST_READING, MemClock, SystemClock};
 pub use gate::{Daemon, Gate, OpenGate, Point};

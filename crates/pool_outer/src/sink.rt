@@ -38,6 +38,3 @@ pub trait Sink {
         ensures told { tells self.new ≡ tells self.old }
         ensures cause { HasCause Failed (faults self.old) (faults self.new) result };
 }
-
-#[cfg(test)]
-mod tests;

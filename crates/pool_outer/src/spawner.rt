@@ -162,6 +162,3 @@ impl<T: Drop> From<AllocFailed<T>> for SpawnError {
         SpawnError::Memory
     }
 }
-
-#[cfg(test)]
-mod tests;

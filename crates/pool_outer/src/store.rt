@@ -112,6 +112,3 @@ impl From<Memory> for StoreError {
         StoreError::Memory
     }
 }
-
-#[cfg(test)]
-mod tests;

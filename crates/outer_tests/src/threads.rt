@@ -1,4 +1,7 @@
-use super::*;
+use pool_outer::{
+    ChildSpawner, DiskStore, MemClock, MemSpawner, MemStore, OpenGate, SureSpawner, SureStore,
+    SystemClock,
+};
 
 // What threads may take.
 fn moves<T: Send>() {}

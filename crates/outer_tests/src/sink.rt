@@ -1,4 +1,4 @@
-use super::*;
+use pool_outer::{Sink, SinkError, StdSink};
 use std::io;
 
 // Takes at most so many bytes of a piece.

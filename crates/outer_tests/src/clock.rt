@@ -1,4 +1,4 @@
-use super::*;
+use pool_outer::{Clock, LAST_READING, MemClock, SystemClock};
 use std::io;
 use std::sync::atomic::{AtomicU64, Ordering};
 use std::time::Duration;

@@ -1,4 +1,6 @@
-use super::*;
+use ad_value::{Memory, Text, TextList};
+use pool_outer::{ChildSpawner, ChildState, Launch, SpawnError, Spawner};
+use std::alloc::Global;
 use std::process::Abort;
 use std::rt::Clock;
 use std::thread;

@@ -1,4 +1,4 @@
-use super::*;
+use pool_outer::{DiskStore, Store, StoreError};
 use std::alloc::Global;
 use std::fs;
 use std::process::Abort;
