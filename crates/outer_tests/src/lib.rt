@@ -1,4 +1,4 @@
-//! Tests of the outside over real files, children, clocks and writers, and of what threads may take.
+//! Tests of the outside over real files, children, clocks and writers, and of what threads take.
 #![tactic(auto)]
 
 #[cfg(test)]
