@@ -1,9 +1,11 @@
--- The abstract pool: what a pool promises of its jobs and runs, without messages, logs or pending work.
+-- The abstract pool: what a pool promises of its jobs and runs, without messages, logs or pending
+-- work.
 use Rattle.std.specs.Prelude.{◌≡◌, ◌≢◌, ◌⊎◌, ◌↔◌, ℕ, ℤ, ◌<◌, ◌≤◌, List, [], ◌∷◌, Option, IsSomeAnd, Bool, if◌then◌else◌}
 use Rattle.pool_core.specs.Ads.{Core, SlotAd, Judged}
 use Rattle.pool_core.specs.Numbers.{JobId, SlotId, ClaimNo, RunNo}
 
--- how a run ended (HTCondor manual, Job Event Log Codes: 005, job terminated; 004, job evicted from machine)
+-- how a run ended (HTCondor manual, Job Event Log Codes: 005, job terminated; 004, job evicted from
+-- machine)
 pub data How : Type 0 where
   Exited : (code : ℤ) → How
   Signalled : (signal : ℤ) → How
@@ -16,8 +18,8 @@ pub data Outcome : Type 0 where
   EndedBy : (run : RunNo) (how : How) → Outcome
   Removed : Outcome
 
--- how a job stands (HTCondor manual, Job ClassAd Attributes, JobStatus). Under: granted to a run, with the end of its
--- lease. Left: found under a run of an earlier time of the pool.
+-- how a job stands (HTCondor manual, Job ClassAd Attributes, JobStatus). Under: granted to a run,
+-- with the end of its lease. Left: found under a run of an earlier time of the pool.
 pub data State : Type 0 where
   Idle : State
   Held : State
@@ -48,7 +50,8 @@ pub record HeldClaim : Type 0 where
   pub claim : ClaimNo
   pub last : ℕ
 
--- what a slot remembers of its claims: its machine's boot, the greatest seq of one that has ended in it, and the held one
+-- what a slot remembers of its claims: its machine's boot, the greatest seq of one that has ended
+-- in it, and the held one
 pub record SlotMark : Type 0 where
   pub boot : ℕ
   pub ended : ℕ
@@ -95,10 +98,12 @@ pub record SameView (v w : AbstractPool) : Type 0 where
 abbrev pub IsUsed : Option HeldClaim → RunNo → Type 0
 IsUsed held run = IsSomeAnd held (λ h. (h.claim ≡ run.claim) × (run.number ≤ h.last))
 
--- By its slot's mark a run may start no more: its claim is of an earlier boot, has ended, or has used its number.
+-- By its slot's mark a run may start no more: its claim is of an earlier boot, has ended, or has
+-- used its number.
 abbrev pub IsSpentBy : Marks → RunNo → Type 0
 IsSpentBy marks run = IsSomeAnd (marks run.claim.slot) (λ m.
-    (run.claim.boot < m.boot) ⊎ (((run.claim.boot ≡ m.boot) × (run.claim.seq ≤ m.ended)) ⊎ IsUsed m.held run))
+    (run.claim.boot < m.boot)
+    ⊎ (((run.claim.boot ≡ m.boot) × (run.claim.seq ≤ m.ended)) ⊎ IsUsed m.held run))
 
 abbrev pub IsSpent : AbstractPool → RunNo → Type 0
 IsSpent v run = IsSpentBy v.marks run

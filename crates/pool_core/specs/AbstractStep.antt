@@ -13,10 +13,11 @@ pub data AbstractStep : Type 0 where
   Acknowledge : (job : JobId) → AbstractStep
   -- the job is to be removed (condor_rm, periodic_remove); only such an order makes this step
   Order : (job : JobId) → AbstractStep
-  -- the job is to run under a claim, with a lease that ends then (condor_submit, job_lease_duration)
+  -- the job is to run under a claim, with a lease that ends then (condor_submit,
+  -- job_lease_duration)
   Grant : (job : JobId) (run : RunNo) (end : ℕ) → AbstractStep
-  -- a slot starts a run, whose two ads it has judged itself: a match is a hint until both sides have checked it
-  -- (Raman, Livny and Solomon, 1998, the claiming protocol)
+  -- a slot starts a run, whose two ads it has judged itself: a match is a hint until both sides
+  -- have checked it (Raman, Livny and Solomon, 1998, the claiming protocol)
   Start : (run : Run) (marks : Marks) → AbstractStep
   -- claims come and go
   Mark : (marks : Marks) → AbstractStep
@@ -36,7 +37,8 @@ pub data AbstractStep : Type 0 where
 
 -- a run's lease ends by now, or no later than the job's own
 abbrev pub IsLeased : AbstractPool → JobId → RunNo → ℕ → Type 0
-IsLeased v job run until = (until ≤ v.moment) ⊎ ((end : ℕ) × Stands v job (Under run end) × (until ≤ end))
+IsLeased v job run until = (until ≤ v.moment)
+    ⊎ ((end : ℕ) × Stands v job (Under run end) × (until ≤ end))
 
 -- no run can come of the job's grant any more
 abbrev pub IsOver : AbstractPool → State → Type 0
@@ -57,7 +59,8 @@ IsEnding NotStarted = ⊥
 IsEnding Evicted = ⊥
 IsEnding Stopped = ⊥
 
--- when a slot may start a run: once, alone, under its lease, and by a match of its own ad and the job's
+-- when a slot may start a run: once, alone, under its lease, and by a match of its own ad and the
+-- job's
 pub record MayStart (v : AbstractPool) (r : Run) : Type 0 where
   pub unspent : ¬ IsSpent v r.run
   pub new_number : (s : Run) → IsIn s v.runs → s.run.number ≢ r.run.number
@@ -70,8 +73,10 @@ pub record MayStart (v : AbstractPool) (r : Run) : Type 0 where
 
 -- when a job may leave the queue
 abbrev pub MayFinish : AbstractPool → JobId → Outcome → Type 0
-MayFinish v job (EndedBy run how) = ((end : ℕ) × Stands v job (Under run end)) × IsDead v run × IsIn (record { run = run; job = job; how = how }) v.said × IsEnding how
-MayFinish v job Removed = IsIn job v.ordered × IsSomeAnd (v.jobs job) (λ e. IsWaiting e.state ⊎ IsOver v e.state)
+MayFinish v job (EndedBy run how) = ((end : ℕ) × Stands v job (Under run end)) × IsDead v run
+    × IsIn (record { run = run; job = job; how = how }) v.said × IsEnding how
+MayFinish v job Removed = IsIn job v.ordered
+    × IsSomeAnd (v.jobs job) (λ e. IsWaiting e.state ⊎ IsOver v e.state)
 
 -- when a step may be made
 abbrev pub Allowed : AbstractPool → AbstractStep → Type 0
@@ -88,14 +93,16 @@ Allowed v (Free job state) = IsWaiting state × IsSomeAnd (v.jobs job) (λ e. Is
 Allowed v (Finish job outcome) = MayFinish v job outcome
 Allowed v (Hold job) = Stands v job Idle
 Allowed v (Release job) = Stands v job Held
-Allowed v (Lengthen job end) = (run : RunNo) × (old : ℕ) × Stands v job (Under run old) × (old ≤ end)
+Allowed v (Lengthen job end) = (run : RunNo) × (old : ℕ) × Stands v job (Under run old)
+    × (old ≤ end)
 
 abbrev pub changed_entry : (State → State) → Entry → Entry
 changed_entry change e = record e { state = change e.state }
 
 -- the pool with one job's state changed
 abbrev pub changed_job : AbstractPool → JobId → (State → State) → AbstractPool
-changed_job v job change = record v { jobs = set same_job v.jobs job (option_map (changed_entry change) (v.jobs job)) }
+changed_job v job change =
+    record v { jobs = set same_job v.jobs job (option_map (changed_entry change) (v.jobs job)) }
 
 abbrev pub lengthened : ℕ → State → State
 lengthened end (Under run old) = Under run end
@@ -115,14 +122,19 @@ said_too (Some how) r said = record { run = r.run; job = r.job; how = how } ∷ 
 -- the pool after a step
 abbrev pub made : AbstractPool → AbstractStep → AbstractPool
 made v (Time moment) = record v { moment = moment }
-made v (Queue job core) = record v { jobs = set same_job v.jobs job (Some (record { core = core; state = Idle })) }
+made v (Queue job core) =
+    record v { jobs = set same_job v.jobs job (Some (record { core = core; state = Idle })) }
 made v (Acknowledge job) = record v { acked = job ∷ v.acked }
 made v (Order job) = record v { ordered = job ∷ v.ordered }
 made v (Grant job run end) = record (changed_job v job (λ _. Under run end)) { next = v.next + 1 }
 made v (Start r marks) = record v { runs = r ∷ v.runs; marks = marks }
 made v (Mark marks) = record v { marks = marks }
 made v (Extend r until) = record v { runs = map (extended r.run until) v.runs }
-made v (Stop r how) = record v { runs = filter (λ s. not (same_run s.run r.run)) v.runs; said = said_too how r v.said }
+made v (Stop r how) = record v {
+  runs = filter (λ s. not (same_run s.run r.run)) v.runs;
+  said
+      = said_too how r v.said;
+}
 made v (Free job state) = changed_job v job (λ _. state)
 made v (Finish job outcome) = changed_job v job (λ _. Done outcome)
 made v (Hold job) = changed_job v job (λ _. Held)

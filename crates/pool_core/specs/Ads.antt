@@ -17,7 +17,8 @@ Core = Attributes
 
 -- the attributes of a job that the pool itself writes (HTCondor manual, Job ClassAd Attributes)
 abbrev pub written_names : List (List ℕ)
-written_names = codes "JobStatus" ∷ codes "HoldReason" ∷ codes "ExitBySignal" ∷ codes "ExitCode" ∷ codes "ExitSignal" ∷ codes "RunClaim" ∷ codes "RunNumber" ∷ codes "LeaseUntil" ∷ []
+written_names = codes "JobStatus" ∷ codes "HoldReason" ∷ codes "ExitBySignal" ∷ codes "ExitCode"
+    ∷ codes "ExitSignal" ∷ codes "RunClaim" ∷ codes "RunNumber" ∷ codes "LeaseUntil" ∷ []
 
 -- a job's ad without what the pool itself writes there
 abbrev pub core_of : JobAd → Core
@@ -33,6 +34,7 @@ job_of judged = judged.job
 abbrev pub slot_of : Judged → SlotAd
 slot_of judged = judged.slot
 
--- the two ads match: each meets the requirements of the other (Raman, Livny and Solomon, Matchmaking, 1998)
+-- the two ads match: each meets the requirements of the other (Raman, Livny and Solomon,
+-- Matchmaking, 1998)
 abbrev pub IsMatch : Judged → Type 0
 IsMatch judged = matches (job_of judged) (slot_of judged) judged.at ≡ true

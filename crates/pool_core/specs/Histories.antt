@@ -60,8 +60,8 @@ ends_in_close [] = false
 ends_in_close (s ∷ []) = is_close s.event
 ends_in_close (s ∷ t ∷ ss) = ends_in_close (t ∷ ss)
 
--- what a history says, in order: its readings, the ads that were submitted with the readings at which they were, the launches that it
--- answered, and the ends of runs
+-- what a history says, in order: its readings, the ads that were submitted with the readings at
+-- which they were, the launches that it answered, and the ends of runs
 abbrev pub readings : List Step → List ℕ
 readings list = map (λ s. reading_of s.event) list
 
@@ -74,8 +74,9 @@ launches list = filter_map (λ s. launch_in s.kept) list
 abbrev pub ends : List Step → List End
 ends list = filter_map (λ s. end_in s.event) list
 
--- The pool shows what its history says: its slots, the greatest reading, the jobs in the order of their submission, how many runs were
--- launched and how many of them have ended, and whether the history has come to its close.
+-- The pool shows what its history says: its slots, the greatest reading, the jobs in the order of
+-- their submission, how many runs were launched and how many of them have ended, and whether the
+-- history has come to its close.
 pub record Shows (slots : List SlotAd) (list : List Step) (p : PoolValue) : Type 0 where
   pub slots_are : p.slots ≡ slots
   pub latest : p.latest ≡ fold max 0 (readings list)

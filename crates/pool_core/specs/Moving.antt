@@ -31,7 +31,16 @@ submit_steps (e ∷ es) = Queue e.0 (core_of e.1.ad) ∷ Acknowledge e.0 ∷ sub
 abbrev pub start_steps : PoolValue → JobId → SlotId → Judgement → ℕ → List AbstractStep
 start_steps p job slot judged reading =
     Grant job (run_no (run_named slot (p.started + 1))) reading
-    ∷ Start (run_of (slot, record { job = job; number = p.started + 1; judged = judged; until = reading })) (marks_after p.slots (p.started + 1))
+    ∷ Start (run_of (
+      slot,
+      record {
+        job = job;
+        number = p.started + 1;
+        judged = judged;
+        until
+            = reading;
+      },
+    )) (marks_after p.slots (p.started + 1))
     ∷ []
 
 -- what becomes of the job whose run has ended
@@ -46,7 +55,8 @@ stop_steps slot end (Some r) = Stop (run_of (slot, r)) (Some (how_of end)) ∷ [
 
 abbrev pub end_steps : PoolValue → JobId → End → Option RunName → List AbstractStep
 end_steps p job end None = []
-end_steps p job end (Some run) = stop_steps run.slot end (run_at run.slot p.runs) ++ end_step job run end ∷ []
+end_steps p job end (Some run) = stop_steps run.slot end (run_at run.slot p.runs)
+    ++ end_step job run end ∷ []
 
 -- the steps of an event, but for the time
 abbrev pub own_steps : PoolValue → Event → List AbstractStep
@@ -62,4 +72,6 @@ steps_of p ev = time_to p.latest (reading_of ev) ++ own_steps p ev
 -- Every pool of a history is safe, and each event moves the one before it to the next by its steps.
 abbrev pub EachMoves : PoolValue → List Step → Type 0
 EachMoves p [] = Safe (view_of p)
-EachMoves p (s ∷ ss) = Safe (view_of p) × Takes (view_of p) (steps_of p s.event) (view_of (after p s.event)) × EachMoves (after p s.event) ss
+EachMoves p (s ∷ ss) = Safe (view_of p)
+    × Takes (view_of p) (steps_of p s.event) (view_of (after p s.event))
+    × EachMoves (after p s.event) ss

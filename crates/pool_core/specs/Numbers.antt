@@ -3,7 +3,8 @@ use Rattle.std.specs.Prelude.{ℕ, Bool, ◌&&◌, ◌==◌}
 pub use Rattle.pool_core.specs.declared.numbers.JobId.{JobId}
 pub use Rattle.pool_core.specs.declared.numbers.SlotId.{SlotId}
 
--- a claim of a slot: in which boot of its machine it was offered, and its place among the offers of that boot
+-- a claim of a slot: in which boot of its machine it was offered, and its place among the offers of
+-- that boot
 pub record ClaimNo : Type 0 where
   pub slot : SlotId
   pub boot : ℕ

@@ -18,8 +18,17 @@ pub record PoolValue : Type 0 where
   pub latest : ℕ  -- the greatest reading, 0 at first
   pub closed : Bool
 
-abbrev pub pool_value : List SlotAd → List (JobId × Job) → List (SlotId × Run) → ℕ → ℕ → ℕ → Bool → PoolValue
-pool_value slots jobs runs clusters started latest closed = record { slots = slots; jobs = jobs; runs = runs; clusters = clusters; started = started; latest = latest; closed = closed }
+abbrev pub pool_value : List SlotAd → List (JobId × Job) → List (SlotId × Run) → ℕ → ℕ → ℕ → Bool
+    → PoolValue
+pool_value slots jobs runs clusters started latest closed = record {
+  slots = slots;
+  jobs = jobs;
+  runs = runs;
+  clusters = clusters;
+  started = started;
+  latest = latest;
+  closed = closed;
+}
 
 -- ---- finite maps as lists of pairs, of which the first with a key counts
 
@@ -57,7 +66,8 @@ has_started e = not (is_idle e.1.phase)
 -- the job's run is that of its slot
 abbrev pub HasItsRun : JobId → Phase → List (SlotId × Run) → Type 0
 HasItsRun job Idle runs = Unit {0}
-HasItsRun job (Running run until) runs = IsSomeAnd (run_at run.slot runs) (λ r. (r.job ≡ job) × (r.number ≡ run.number) × (r.until ≡ until))
+HasItsRun job (Running run until) runs = IsSomeAnd (run_at run.slot runs)
+    (λ r. (r.job ≡ job) × (r.number ≡ run.number) × (r.until ≡ until))
 HasItsRun job (Held run) runs = Unit {0}
 HasItsRun job (Finished run end) runs = Unit {0}
 

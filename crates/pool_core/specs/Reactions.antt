@@ -28,7 +28,16 @@ use Rattle.pool_core.specs.PoolValue.{PoolValue, is_idle, job_at, run_at, slot_a
 use Rattle.pool_core.specs.Sameness.{same_ad, same_ads}
 
 abbrev pub opening_pool : List SlotAd → PoolValue
-opening_pool slots = record { slots = slots; jobs = []; runs = []; clusters = 0; started = 0; latest = 0; closed = false }
+opening_pool slots = record {
+  slots = slots;
+  jobs = [];
+  runs = [];
+  clusters = 0;
+  started = 0;
+  latest
+      = 0;
+  closed = false;
+}
 
 -- ---- which events are accepted
 
@@ -61,11 +70,13 @@ slot_ads slots = map (λ s. s.ad) slots
 abbrev pub is_judged : Option Job → Option SlotAd → ℕ → Judgement → Bool
 is_judged None slot reading judged = false
 is_judged (Some j) None reading judged = false
-is_judged (Some j) (Some s) reading judged = (judged.at == reading) && (same_ad judged.job j.ad && same_ad judged.slot s.ad)
+is_judged (Some j) (Some s) reading judged =
+    (judged.at == reading) && (same_ad judged.job j.ad && same_ad judged.slot s.ad)
 
 -- no idle job was found to match a slot, at that reading
 abbrev pub is_settled : PoolValue → ℕ → Mismatch → Bool
-is_settled p reading none = (none.at == reading) && (same_ads none.jobs (idle_ads p.jobs) && same_ads none.slots (slot_ads p.slots))
+is_settled p reading none = (none.at == reading) &&
+    (same_ads none.jobs (idle_ads p.jobs) && same_ads none.slots (slot_ads p.slots))
 
 abbrev pub no_slot : SlotId
 no_slot = record { machine = 0; slot = 0 }
@@ -80,17 +91,22 @@ has_runs (r ∷ rs) = true
 
 abbrev pub start_refusal : PoolValue → JobId → SlotId → Judgement → ℕ → Option StepError
 start_refusal p job slot judged reading =
-    if is_some (run_at slot p.runs) || not (is_idle_job (job_at job p.jobs)) then Some (Occupied slot job)
-    else (if is_judged (job_at job p.jobs) (slot_at slot p.slots) reading judged then None else Some (AdMoved slot))
+    if is_some (run_at slot p.runs) || not (is_idle_job (job_at job p.jobs)) then Some
+    (Occupied slot job)
+    else (if is_judged (job_at job p.jobs) (slot_at slot p.slots) reading judged then None else Some
+    (AdMoved slot))
 
 abbrev pub close_refusal : PoolValue → ℕ → Mismatch → Option StepError
-close_refusal p reading none = if is_settled p reading none then (if has_runs p.runs then Some NotQuiet else None) else Some (AdMoved (first_slot p.slots))
+close_refusal p reading none = if is_settled p reading none
+    then (if has_runs p.runs then Some NotQuiet else None) else Some (AdMoved (first_slot p.slots))
 
 -- why a pool that isn't closed refuses an event
 abbrev pub open_refusal : PoolValue → Event → Option StepError
-open_refusal p (Submit jobs reading) = if nat_lt 10000 (length p.jobs + length jobs) then Some Jobs else None
+open_refusal p (Submit jobs reading) =
+    if nat_lt 10000 (length p.jobs + length jobs) then Some Jobs else None
 open_refusal p (Start job slot judged reading) = start_refusal p job slot judged reading
-open_refusal p (Ended job end reading) = if is_some (run_of_job (job_at job p.jobs)) then None else Some (NoRun job)
+open_refusal p (Ended job end reading) =
+    if is_some (run_of_job (job_at job p.jobs)) then None else Some (NoRun job)
 open_refusal p (Close reading none) = close_refusal p reading none
 
 -- why the pool refuses an event
@@ -107,7 +123,8 @@ string_in _ = []
 abbrev pub string_of : Attributes → List ℕ → List ℕ
 string_of ad name = string_in (lookup name ad)
 
--- what a job is started with (HTCondor manual, Job ClassAd Attributes, Cmd, Iwd, In, Out, Err); it gets no words yet
+-- what a job is started with (HTCondor manual, Job ClassAd Attributes, Cmd, Iwd, In, Out, Err); it
+-- gets no words yet
 abbrev pub launch_of : Attributes → Launch
 launch_of ad = record {
   program = string_of ad (codes "Cmd");
@@ -130,7 +147,9 @@ answer_to p (Close reading none) = answer.Done
 -- jobs of a cluster, from a proc on
 abbrev pub numbered_jobs : ℕ → ℕ → List Attributes → List (JobId × Job)
 numbered_jobs cluster proc [] = []
-numbered_jobs cluster proc (ad ∷ ads) = (record { cluster = cluster; proc = proc }, record { ad = ad; phase = Idle }) ∷ numbered_jobs cluster (proc + 1) ads
+numbered_jobs cluster proc (ad ∷ ads) =
+    (record { cluster = cluster; proc = proc }, record { ad = ad; phase = Idle }) ∷ numbered_jobs
+    cluster (proc + 1) ads
 
 -- a submission with jobs is one more cluster
 abbrev pub clusters_after : ℕ → List Attributes → ℕ
@@ -140,7 +159,8 @@ clusters_after clusters (ad ∷ ads) = clusters + 1
 -- the first job of that number stands so
 abbrev pub with_phase : JobId → Phase → List (JobId × Job) → List (JobId × Job)
 with_phase job phase [] = []
-with_phase job phase (e ∷ es) = if same_job job e.0 then (e.0, record e.1 { phase = phase }) ∷ es else e ∷ with_phase job phase es
+with_phase job phase (e ∷ es) = if same_job job e.0 then (e.0, record e.1 { phase = phase }) ∷ es
+    else e ∷ with_phase job phase es
 
 abbrev pub without_run : SlotId → List (SlotId × Run) → List (SlotId × Run)
 without_run slot [] = []
@@ -156,19 +176,28 @@ abbrev pub run_named : SlotId → ℕ → RunName
 run_named slot number = record { slot = slot; number = number }
 
 abbrev pub submitted : PoolValue → List Attributes → PoolValue
-submitted p ads = record p { jobs = p.jobs ++ numbered_jobs (p.clusters + 1) 0 ads; clusters = clusters_after p.clusters ads }
+submitted p ads = record p {
+  jobs = p.jobs ++ numbered_jobs (p.clusters + 1) 0 ads;
+  clusters
+      = clusters_after p.clusters ads;
+}
 
 -- its lease ends at the reading
 abbrev pub started : PoolValue → JobId → SlotId → Judgement → ℕ → PoolValue
 started p job slot judged reading = record p {
   jobs = with_phase job (Running (run_named slot (p.started + 1)) reading) p.jobs;
-  runs = p.runs ++ (slot, record { job = job; number = p.started + 1; judged = judged; until = reading }) ∷ [];
+  runs = p.runs
+      ++ (slot, record { job = job; number = p.started + 1; judged = judged; until = reading })
+      ∷ [];
   started = p.started + 1;
 }
 
 abbrev pub ended_with : PoolValue → JobId → End → Option RunName → PoolValue
 ended_with p job end None = p
-ended_with p job end (Some run) = record p { jobs = with_phase job (phase_after run end) p.jobs; runs = without_run run.slot p.runs }
+ended_with p job end (Some run) = record p {
+  jobs = with_phase job (phase_after run end) p.jobs;
+  runs = without_run run.slot p.runs;
+}
 
 abbrev pub ended : PoolValue → JobId → End → PoolValue
 ended p job end = ended_with p job end (run_of_job (job_at job p.jobs))

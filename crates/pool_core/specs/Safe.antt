@@ -13,7 +13,8 @@ pub record IsMatched (v : AbstractPool) (r : Run) : Type 0 where
 
 -- a job that has left the queue did so by an end that its machine said, or by an order
 abbrev pub IsAccounted : AbstractPool → JobId → State → Type 0
-IsAccounted v job (Done (EndedBy run how)) = IsIn (record { run = run; job = job; how = how }) v.said
+IsAccounted v job (Done (EndedBy run how)) =
+    IsIn (record { run = run; job = job; how = how }) v.said
 IsAccounted v job (Done Removed) = IsIn job v.ordered
 IsAccounted v job Idle = Unit {0}
 IsAccounted v job Held = Unit {0}
@@ -24,9 +25,11 @@ pub record Safe (v : AbstractPool) : Type 0 where
   -- every run's slot and job match
   pub matched : (r : Run) → IsIn r v.runs → IsMatched v r
   -- no two runs have one slot, and no two have one number
-  pub one_run_per_slot : (r s : Run) → IsIn r v.runs → IsIn s v.runs → (r.slot ≡ s.slot) ⊎ (r.run.number ≡ s.run.number) → r ≡ s
+  pub one_run_per_slot : (r s : Run) → IsIn r v.runs → IsIn s v.runs → (r.slot ≡ s.slot)
+      ⊎ (r.run.number ≡ s.run.number) → r ≡ s
   -- no two runs of one job have leases that aren't past
-  pub one_lease_per_job : (r s : Run) → IsIn r v.runs → IsIn s v.runs → r.job ≡ s.job → v.moment < r.until → v.moment < s.until → r ≡ s
+  pub one_lease_per_job : (r s : Run) → IsIn r v.runs → IsIn s v.runs → r.job ≡ s.job
+      → v.moment < r.until → v.moment < s.until → r ≡ s
   -- an acknowledged job is in the queue, or has left it
   pub acknowledged_kept : (job : JobId) → IsIn job v.acked → IsSome (v.jobs job)
   -- a job leaves the queue only by an end that was said, or by an order

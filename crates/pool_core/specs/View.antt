@@ -37,18 +37,27 @@ abbrev pub entry_of : Job → Entry
 entry_of j = record { core = core_of j.ad; state = state_of j.phase }
 
 abbrev pub run_of : SlotId × SlotRun → Run
-run_of e = record { slot = e.0; run = run_no (record { slot = e.0; number = e.1.number }); job = e.1.job; until = e.1.until; judged = e.1.judged }
+run_of e = record {
+  slot = e.0;
+  run = run_no (record { slot = e.0; number = e.1.number });
+  job
+      = e.1.job;
+  until = e.1.until;
+  judged = e.1.judged;
+}
 
 -- what was said of a job's run
 abbrev pub said_of : JobId → Phase → Option Said
 said_of job phase.Idle = None
 said_of job (phase.Running run until) = None
 said_of job (phase.Held run) = Some (record { run = run_no run; job = job; how = NotStarted })
-said_of job (phase.Finished run end) = Some (record { run = run_no run; job = job; how = how_of end })
+said_of job (phase.Finished run end) =
+    Some (record { run = run_no run; job = job; how = how_of end })
 
 -- a slot's mark after so many runs of the pool: none of their numbers is used again
 abbrev pub mark_after : ℕ → SlotId → SlotMark
-mark_after last slot = record { boot = 0; ended = 0; held = Some (record { claim = claim_of slot; last = last }) }
+mark_after last slot =
+    record { boot = 0; ended = 0; held = Some (record { claim = claim_of slot; last = last }) }
 
 abbrev pub marks_after : List SlotAd → ℕ → Marks
 marks_after slots last slot = option_map (λ _. mark_after last slot) (slot_at slot slots)

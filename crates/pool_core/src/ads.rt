@@ -12,7 +12,8 @@ pub(crate) fn is_same(ad: &Ad, other: &Ad) -> bool
 
 // What follows the first ad, where it is this one.
 pub(crate) fn after_first<'a>(ads: &'a [Ad], ad: &Ad) -> Option<&'a [Ad]>
-    ensures { MatchOption result ((more : List Attributes) → ads.now ≢ ad.now ∷ more) (λ rest. ads.now ≡ ad.now ∷ rest.now) }
+    ensures { MatchOption result ((more : List Attributes) → ads.now ≢ ad.now ∷ more)
+        (λ rest. ads.now ≡ ad.now ∷ rest.now) }
 {
     let (first, rest) = ads.split_first()?;
     if !first.same(ad) {

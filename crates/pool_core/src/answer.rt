@@ -41,8 +41,9 @@ pub enum StepError {
     /// A Start of a slot that has a run, or of a job that isn't idle or isn't there.
     #[error("the slot has a run, or the job is not idle")]
     Occupied { slot: SlotId, job: JobId },
-    /// A Start whose match isn't one of the job's ad and the slot's, or not of its reading. A Close whose want of a match isn't one
-    /// of the idle jobs' ads and all slots' ads, or not of its reading: `slot` is the pool's first.
+    /// A Start whose match isn't one of the job's ad and the slot's, or not of its reading. A Close
+    /// whose want of a match isn't one of the idle jobs' ads and all slots' ads, or not of its
+    /// reading: `slot` is the pool's first.
     #[error("what was judged is not what the pool has")]
     AdMoved { slot: SlotId },
     /// An Ended of a job that has no run or isn't there.

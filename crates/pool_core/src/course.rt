@@ -45,7 +45,8 @@ impl Model for Course {
 
     ghost view = { λ c. record { opening = c.opening; list = c.steps.items; pool = c.pool } };
 
-    ghost invariant = { λ c. (c.opening ≡ opening_pool c.opening.slots) × LeadsTo c.opening c.steps.items c.pool };
+    ghost invariant = { λ c. (c.opening ≡ opening_pool c.opening.slots) × LeadsTo c.opening
+        c.steps.items c.pool };
 }
 
 impl Course {
@@ -77,16 +78,18 @@ impl Course {
         self.steps.len()
     }
 
-    /// One event. A refused one changes nothing. Costs as much as `Pool::step`, however long the history is, but that
-    /// the list of events doubles its room where it is full.
+    /// One event. A refused one changes nothing. Costs as much as `Pool::step`, however long the
+    /// history is, but that the list of events doubles its room where it is full.
     pub fn act(&mut self, alloc: Global, ev: Event) -> Result<Answer, StepError>
         ensures accepted { OnOk result (refusal self.old.pool ev ≡ None) }
         ensures answer { IfOk result (λ a. a ≡ answer_to self.old.pool ev) }
-        ensures list { OnOk result (self.new.list ≡ self.old.list ++ record { event = ev; kept = kept_of (answer_to self.old.pool ev) } ∷ []) }
+        ensures list { OnOk result (self.new.list ≡ self.old.list
+            ++ record { event = ev; kept = kept_of (answer_to self.old.pool ev) } ∷ []) }
         ensures pool { OnOk result (self.new.pool ≡ after self.old.pool ev) }
         ensures opening { self.new.opening ≡ self.old.opening }
 
-        ensures cause { IfErr result (λ e. e ≢ StepError.Memory → refusal self.old.pool ev ≡ Some e) }
+        ensures cause { IfErr result
+            (λ e. e ≢ StepError.Memory → refusal self.old.pool ev ≡ Some e) }
         ensures same { OnErr result (self.new ≡ self.old) }
     {
         if self.steps.reserve(1).is_err() {

@@ -17,8 +17,8 @@ pub struct RunName {
     pub number: u64,
 }
 
-/// How a job stands (HTCondor manual, Job ClassAd Attributes, JobStatus: Idle, Running, Held, Completed). A job that
-/// could not be started is held.
+/// How a job stands (HTCondor manual, Job ClassAd Attributes, JobStatus: Idle, Running, Held,
+/// Completed). A job that could not be started is held.
 #[derive(Clone, Copy, Debug)]
 pub enum Phase {
     Idle,

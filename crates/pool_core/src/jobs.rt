@@ -48,7 +48,8 @@ pub(crate) fn are_idle_ads(ads: &[Ad], jobs: &JobTable) -> bool
 
 // The idle job at a place among the idle ones.
 pub(crate) fn idle_job(jobs: &JobTable, place: usize) -> Option<(JobId, &Ad)>
-    ensures { option_map (λ e. (e.0, e.1.now)) result ≡ slice_get (idle_jobs jobs.now.entries) place }
+    ensures { option_map (λ e. (e.0, e.1.now)) result ≡ slice_get (idle_jobs jobs.now.entries)
+        place }
 {
     let mut left = place;
     for (id, job) in jobs {

@@ -1,4 +1,5 @@
-//! A pool of slots and jobs, judged by their ads: what happens in it, what it answers, and its history.
+//! A pool of slots and jobs, judged by their ads: what happens in it, what it answers, and its
+//! history.
 #![tactic(auto)]
 
 mod ads;

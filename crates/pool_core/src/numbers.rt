@@ -5,8 +5,8 @@ pub struct JobId {
     pub proc: u32,
 }
 
-/// A slot's number: its machine's, from 0 in the order of the configuration, and its own there, from 1 (HTCondor manual, Machine
-/// ClassAd Attributes, SlotID).
+/// A slot's number: its machine's, from 0 in the order of the configuration, and its own there,
+/// from 1 (HTCondor manual, Machine ClassAd Attributes, SlotID).
 #[derive(Clone, Copy, Debug, PartialEq, Eq, Hash)]
 pub struct SlotId {
     pub machine: u16,

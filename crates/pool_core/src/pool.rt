@@ -59,11 +59,14 @@ impl Model for Pool {
 
     ghost Value = { PoolValue };
 
-    ghost coded = { Prim.hlevel (codes, slot_ad.the_row.coded, job.the_row.coded, run.the_row.coded) };
+    ghost coded = { Prim.hlevel
+        (codes, slot_ad.the_row.coded, job.the_row.coded, run.the_row.coded) };
 
-    ghost view = { λ p. pool_value p.slots p.jobs.entries p.runs.entries p.clusters p.started p.latest p.closed };
+    ghost view = { λ p. pool_value p.slots p.jobs.entries p.runs.entries p.clusters p.started
+        p.latest p.closed };
 
-    ghost invariant = { λ p. IsConsistent (pool_value p.slots p.jobs.entries p.runs.entries p.clusters p.started p.latest p.closed) };
+    ghost invariant = { λ p. IsConsistent (pool_value p.slots p.jobs.entries p.runs.entries
+        p.clusters p.started p.latest p.closed) };
 }
 
 impl Pool {
@@ -121,7 +124,8 @@ impl Pool {
 
     /// The idle job at a place among the idle ones, from 0. Walks over the jobs up to it.
     pub fn idle_job(&self, place: usize) -> Option<(JobId, &Ad)>
-        ensures { option_map (λ e. (e.0, e.1.now)) result ≡ slice_get (idle_jobs self.now.jobs) place }
+        ensures { option_map (λ e. (e.0, e.1.now)) result ≡ slice_get (idle_jobs self.now.jobs)
+            place }
     {
         jobs::idle_job(&self.jobs, place)
     }
@@ -169,10 +173,10 @@ impl Copied for Pool {
 }
 
 impl Pool {
-    /// One event. A refused one changes nothing. Takes memory for the answer, its equal and what the
-    /// pool keeps of the event. A Start computes in O(slots up to its own), an Ended in O(runs that
-    /// began later), a Close in O(jobs + slots), each times the size of the ads that it looks at; a
-    /// Submit's time does not grow with the pool.
+    /// One event. A refused one changes nothing. Takes memory for the answer, its equal and what
+    /// the pool keeps of the event. A Start computes in O(slots up to its own), an Ended in O(runs
+    /// that began later), a Close in O(jobs + slots), each times the size of the ads that it looks
+    /// at; a Submit's time does not grow with the pool.
     pub fn step(&mut self, alloc: Global, ev: &Event) -> Result<Stepped, StepError>
         ensures accepted { OnOk result (refusal self.old ev.now ≡ None) }
         ensures answer { IfOk result (λ s. s.answer ≡ answer_to self.old ev.now) }
@@ -180,7 +184,8 @@ impl Pool {
         ensures next { OnOk result (self.new ≡ after self.old ev.now) }
 
         ensures refused { IfSome (refusal self.old ev.now) (λ e. IsErrOf result e) }
-        ensures cause { IfErr result (λ e. e ≢ StepError.Memory → refusal self.old ev.now ≡ Some e) }
+        ensures cause { IfErr result
+            (λ e. e ≢ StepError.Memory → refusal self.old ev.now ≡ Some e) }
         ensures same { OnErr result (self.new ≡ self.old) }
     {
         if let Some(error) = self.refusal(ev) {
@@ -254,7 +259,8 @@ impl Pool {
 
     // Whether the match is one of that job's ad and that slot's, at that reading.
     fn is_judged(&self, job: JobId, slot: SlotId, judged: &Judged, reading: u64) -> bool
-        ensures { result ≡ is_judged (job_at job self.now.jobs) (slot_at slot self.now.slots) reading judged.now }
+        ensures { result ≡ is_judged (job_at job self.now.jobs) (slot_at slot self.now.slots)
+            reading judged.now }
     {
         let Some(job) = self.jobs.get(&job) else {
             return false;

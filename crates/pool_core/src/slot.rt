@@ -9,7 +9,8 @@ use ad_tree::{Ad, AdList};
 use ad_value::{Copied, Memory, Seq, Text};
 use std::alloc::Global;
 
-/// A slot with its name, as `slot1@m1` (HTCondor manual, Machine ClassAd Attributes, Name), and its ad, which never changes.
+/// A slot with its name, as `slot1@m1` (HTCondor manual, Machine ClassAd Attributes, Name), and its
+/// ad, which never changes.
 pub struct SlotAd {
     pub slot: SlotId,
     pub name: Text,
