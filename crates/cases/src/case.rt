@@ -38,7 +38,9 @@ fn read_case(line: u64, text: &str) -> Case<'_> {
 
 impl<'a> Case<'a> {
     /// Its one field after the kind.
-    pub fn one_field(self) -> Result<&'a str, CaseError> {
+    pub fn one_field(self) -> Result<&'a str, CaseError>
+        ensures { IfErr result (IsFieldsAt self.entry.line) }
+    {
         let mut fields = self.text.split('\t').skip(1);
         match (fields.next(), fields.next()) {
             (Some(first), None) => Ok(first),
