@@ -1,0 +1,4 @@
+pub mod Priority
+pub mod Accounts
+pub mod Tables
+pub mod Laws
