@@ -1,11 +1,11 @@
 -- Ads as lists: what a change leaves, and how the entries of a table show them.
-use Rattle.std.proofs.Common.{◌≡◌, ℕ, suc, ◌+◌, ◌<◌, ◌≤◌, ◌==◌, slice_get, Bool, true, false, true≢false, cond, List, [], ◌∷◌, ◌++◌, length, map, Option, Some, None, is_some, IsTrue, refl, ap, sym, ◌∙◌, subst, append_assoc, arith, not, ⊎_elim, IsSome, position}
+use Rattle.std.proofs.Common.{◌≡◌, ℕ, suc, ◌+◌, ◌<◌, ◌≤◌, ◌==◌, slice_get, Bool, true, false, true≢false, cond, List, [], ◌∷◌, ◌++◌, length, map, Option, Some, None, is_some, IsTrue, refl, ap, sym, ◌∙◌, subst, arith, not, ⊎_elim, IsSome, position}
 use Rattle.std.proofs.lemmas.Bool.{cases_lt, eqb-true, eqb-false}
 use Rattle.std.specs.Prelude.{unwrap_or}
 use Rattle.std.specs.Borrow.{Bor}
 use Rattle.std.specs.Option.{option_map, option_copied}
 use Rattle.std.specs.Map as table
-use Rattle.indexmap.specs.IndexMap.{insert_entry, shift_remove_entry, set_value_at}
+use Rattle.indexmap.specs.IndexMap.{insert_entry, set_value_at}
 use Rattle.indexmap.proofs.MapLemmas.{insert_entry-first, Found-position}
 use Rattle.ad_tree.specs.declared.tree.Expr.{Expr}
 use Rattle.ad_tree.specs.Tree.{Tree, tree}
@@ -35,14 +35,6 @@ pub named_trees-set_value_at : (x : List ℕ) (e : Expr) (es : List (List ℕ ×
 named_trees-set_value_at x e es i at =
     sym (ap named_trees (insert_entry-first same_name x e es i (Found-position (same_name x) es i at).first)) ∙ named_trees-insert_entry es x e
 
-pub named_trees-shift_remove_entry : (x : List ℕ) (es : List (List ℕ × Expr)) → named_trees (shift_remove_entry (same_name x) es) ≡ without x (named_trees es)
-named_trees-shift_remove_entry x [] = refl
-named_trees-shift_remove_entry x (a ∷ es) = by (same_name x a.0) (named_trees-shift_remove_entry x es)
-  where
-    by : (b : Bool) → named_trees (shift_remove_entry (same_name x) es) ≡ without x (named_trees es) → named_trees (cond b es (a ∷ shift_remove_entry (same_name x) es)) ≡ cond b (named_trees es) ((a.0, tree a.1) ∷ without x (named_trees es))
-    by true rest = refl
-    by false rest = ap (λ l. (a.0, tree a.1) ∷ l) rest
-
 pub names-named_trees : (es : List (List ℕ × Expr)) → names (named_trees es) ≡ map (λ e. e.0) es
 names-named_trees [] = refl
 names-named_trees (e ∷ es) = ap (λ l. e.0 ∷ l) (names-named_trees es)
@@ -56,7 +48,7 @@ is_some-option_map f None = refl
 is_some-option_map f (Some x) = refl
 
 -- ---- a look-up that finds nothing
-none_at : {A : Type 0} (b : Bool) (e : A) (o : Option A) → cond b (Some e) o ≡ None → (b ≡ false) × (o ≡ None)
+pub none_at : {A : Type 0} (b : Bool) (e : A) (o : Option A) → cond b (Some e) o ≡ None → (b ≡ false) × (o ≡ None)
 none_at true e o h = absurd (some_is_not_none h)
   where
     some_is_not_none : {A : Type 0} {e : A} → Some e ≡ None → ⊥
@@ -66,7 +58,7 @@ none_at false e o h = (refl, h)
 at_none : {A : Type 0} (b : Bool) (e : A) (o : Option A) → b ≡ false → o ≡ None → cond b (Some e) o ≡ None
 at_none b e o p q = ap (λ c. cond c (Some e) o) p ∙ q
 
-other_way : (x y : List ℕ) → same_name x y ≡ false → same_name y x ≡ false
+pub other_way : (x y : List ℕ) → same_name x y ≡ false → same_name y x ≡ false
 other_way x y h = same_name_equivalence.symm y x ∙ h
 
 lookup-with_attribute-other : (x y : List ℕ) (e : Tree) (ad : Attributes) → same_name x y ≡ false → lookup y ad ≡ None → lookup y (with_attribute x e ad) ≡ None
@@ -161,11 +153,6 @@ length-with_attribute-within x e ad room within = ⊎_elim (λ less. omega (arit
   where
     full : 256 ≤ length ad → length (with_attribute x e ad) ≤ 256
     full h = omega (arith, length-with_attribute-there x e ad (λ none. room (none, omega arith)))
-
--- an attribute that is moved from the beginning of what is left to the end of what is done
-pub copied_more : (done : Attributes) (a : List ℕ × Tree) (more whole : Attributes) → done ++ a ∷ more ≡ whole → AreDistinct whole → with_attribute a.0 a.1 done ++ more ≡ whole
-copied_more done a more whole e distinct =
-    ap (λ l. l ++ more) (with_attribute-new a.0 a.1 done (lookup-before done a more (subst AreDistinct (sym e) distinct))) ∙ append_assoc done (a ∷ []) more ∙ e
 
 -- a test that says whether there is a value
 pub IsSome-from : {A : Type 0} (b : Bool) (o : Option A) → b ≡ is_some o → (IsTrue b → IsSome o) × (IsSome o → IsTrue b)

@@ -1,3 +1,4 @@
 pub mod TreeLemmas
 mod NameLemmas
 pub mod AdLemmas
+pub mod PlacesLemmas

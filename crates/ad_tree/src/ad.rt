@@ -1,12 +1,11 @@
-ghost use Rattle.std.specs.Prelude.{◌≡◌, ◌↔◌, ◌≤◌, [], length, slice_get, IsSome, IsTrue, OnOk, OnErr, IsErrOf};
+ghost use Rattle.std.specs.Prelude.{◌≡◌, ◌↔◌, ◌≤◌, [], length, slice_get, IfOk, IsSome, IsTrue, OnOk, OnErr, IsErrOf};
 ghost use Rattle.std.specs.Option.{option_map};
-ghost use Rattle.ad_tree.specs.Ad.{named_trees, with_attribute};
-ghost use Rattle.ad_tree.specs.Tree.{tree};
 
-use crate::name::{Name, NameKey};
+use crate::places::{all_places, copy_places, own_place, table_place};
+use crate::shared::SharedTable;
+use crate::table::Table;
 use crate::tree::Expr;
 use ad_value::{Copied, Memory, Seq};
-use indexmap::IndexMap;
 use std::alloc::Global;
 use std::fmt;
 use std::marker::Model;
@@ -15,19 +14,29 @@ use thiserror::Error;
 /// How many attributes an ad may have.
 pub const MAX_ATTRIBUTES: usize = 256;
 
+// A table is made with memory for at least so many attributes.
+const LEAST_CAPACITY: usize = 8;
+
 /// An ad: attributes in the order in which their names came. Names are equal without ASCII case,
 /// and contracts see the list of names and expressions.
+///
+/// The copies of an ad share one table, and each has its own places in it. So a copy costs one
+/// small allocation, whatever the ad's size, and the deep copy is put off to the first `set` of an
+/// ad whose table a copy has too, or of which an attribute was removed. An attribute that is
+/// removed keeps its memory until then.
 ///
 /// A look-up by name is fast where names do not collide in the table. Names can be made to collide,
 /// and then it takes O(attributes).
 pub struct Ad {
-    attributes: IndexMap<Name, Expr>,
+    table: SharedTable,
+    places: Vec<u8>,
 }
 
 impl Drop for Ad {
     fn drop(self) {
         let Ad {
-            attributes: _attributes,
+            table: _table,
+            places: _places,
         } = self;
     }
 }
@@ -66,11 +75,11 @@ impl Model for Ad {
 
     ghost coded = { coded_list (coded× (coded_list coded_ℕ) tree_code) };
 
-    ghost use Rattle.ad_tree.specs.Ad.{named_trees, IsAdTable};
+    ghost use Rattle.ad_tree.specs.Places.{attributes_at, IsAdOver};
 
-    ghost view = { λ a. named_trees a.attributes.entries };
+    ghost view = { λ a. attributes_at a.table a.places.items };
 
-    ghost invariant = { λ a. IsAdTable a.attributes.entries };
+    ghost invariant = { λ a. IsAdOver a.table a.places.items };
 }
 
 impl Ad {
@@ -82,7 +91,8 @@ impl Ad {
         ensures { result ≡ [] }
     {
         Ad {
-            attributes: IndexMap::new(alloc),
+            table: SharedTable::new(),
+            places: Vec::new(alloc),
         }
     }
 
@@ -92,51 +102,59 @@ impl Ad {
         ensures within { result ≤ MAX_ATTRIBUTES }
         ensures distinct { AreDistinct self.now }
     {
-        self.attributes.len()
+        self.places.len()
     }
 
     /// Whether there are no attributes. Computes in O(1).
     pub fn is_empty(&self) -> bool
         ensures { IsTrue result ↔ (self.now ≡ []) }
     {
-        self.attributes.is_empty()
+        self.places.is_empty()
     }
 
-    /// The expression under a name, without memory. Computes in O(bytes of the name) where names do
-    /// not collide.
+    /// The expression under a name, without memory: by the table where the ad has all of it, and
+    /// else after going over the ad's places once, at most 256 bytes. Computes in O(bytes of the
+    /// name) where names do not collide.
     pub fn get(&self, name: &str) -> Option<&Expr>
         ensures { option_map (λ e. tree e.now) result ≡ lookup name.now self.now }
     {
-        self.attributes.get(NameKey(name))
+        let place = self.place(name)?;
+        let (_, expr) = self.attribute(place)?;
+        Some(expr)
     }
 
-    /// The place of a name, without memory. Computes in O(bytes of the name) where names do not
-    /// collide.
+    /// The place of a name, without memory: by the table where the ad has all of it, and else after
+    /// going over the ad's places once, at most 256 bytes. Computes in O(bytes of the name) where
+    /// names do not collide.
     pub fn place(&self, name: &str) -> Option<usize>
         ensures { result ≡ place_of name.now self.now }
     {
-        self.attributes.get_index_of(NameKey(name))
+        let place = self.table.place(name)?;
+        if self.table.len() == self.places.len() {
+            return Some(place);
+        }
+        own_place(&self.places, place)
     }
 
     /// The name and the expression at a place, without memory. Computes in O(1).
     pub fn attribute(&self, place: usize) -> Option<(&str, &Expr)>
         ensures { option_map (λ a. (a.0.now, tree a.1.now)) result ≡ slice_get self.now place }
     {
-        let (name, expr) = self.attributes.get_index(place)?;
-        Some((name.as_str(), expr))
+        let place = table_place(&self.places, place)?;
+        self.table.attribute(place)
     }
 
-    /// Whether `set` would refuse the name as one too many, without memory. Computes in O(bytes of
-    /// the name) where names do not collide.
+    /// Whether `set` would refuse the name as one too many, without memory. Computes as `get`.
     pub fn is_full_for(&self, name: &str) -> bool
         ensures { IsTrue result ↔ IsFullFor name.now self.now }
     {
-        self.attributes.len() == MAX_ATTRIBUTES && !self.attributes.contains_key(NameKey(name))
+        self.places.len() == MAX_ATTRIBUTES && self.get(name).is_none()
     }
 
     /// Puts an expression under a name. A name that is there keeps its place and spelling, and a
-    /// new one comes last. Computes in O(bytes of the name) on average, where names do not collide.
-    /// An error leaves the ad as it was, and the expression is dropped.
+    /// new one comes last. Computes in O(bytes of the name) on average, where names do not collide;
+    /// the first time after a copy, or after a removal, in O(size), since the ad then gets a table
+    /// of its own. An error leaves the ad as it was, and the expression is dropped.
     pub fn set(&mut self, alloc: Global, name: &str, expr: Expr) -> Result<(), SetError>
         ensures ok { OnOk result (self.new ≡ with_attribute name.now (tree expr) self.old) }
         ensures full { IsErrOf result SetError.Full ↔ IsFullFor name.now self.old }
@@ -145,17 +163,83 @@ impl Ad {
         if self.is_full_for(name) {
             return Err(SetError::Full);
         }
-        put(&mut self.attributes, alloc, name, expr)?;
+        if !self.is_alone() {
+            *self = self.alone_copy(alloc)?;
+        }
+        self.set_alone(alloc, name, expr)?;
         Ok(())
     }
 
     /// Takes a name out, if it is there, without memory; the rest keeps its order. Computes in
-    /// O(attributes after it).
+    /// O(bytes of the name) where names do not collide, and in O(attributes), a byte each.
     pub fn remove(&mut self, name: &str) -> bool
         ensures found { IsTrue result ↔ IsSome (lookup name.now self.old) }
         ensures rest { self.new ≡ without name.now self.old }
     {
-        self.attributes.shift_remove(NameKey(name)).is_some()
+        match self.place(name) {
+            Some(place) => {
+                self.places.remove(place);
+                true
+            }
+            None => false,
+        }
+    }
+}
+
+// An ad stands alone where no copy has its table and it has all of its table.
+impl Ad {
+    ghost use Rattle.ad_tree.specs.Ad.{with_attribute, IsFullFor};
+    ghost use Rattle.ad_tree.specs.Tree.{tree};
+
+    // Whether it stands alone.
+    fn is_alone(&mut self) -> bool
+        ensures { self.new ≡ self.old }
+    {
+        self.table.is_unshared() && self.table.len() == self.places.len()
+    }
+
+    // An equal ad that stands alone, with memory for one attribute more.
+    fn alone_copy(&self, alloc: Global) -> Result<Ad, Memory>
+        ensures { IfOk result (λ a. a ≡ self.now) }
+    {
+        let mut table = Table::with_capacity(alloc, (self.len() + 1).max(LEAST_CAPACITY))?;
+        for place in 0..self.len() {
+            if let Some((name, expr)) = self.attribute(place) {
+                table.put(alloc, name, expr.copy(alloc)?)?;
+            }
+        }
+        Ad::of_table(alloc, table)
+    }
+
+    // An ad that has all of a table.
+    fn of_table(alloc: Global, table: Table) -> Result<Ad, Memory>
+        ensures { IfOk result (λ a. a ≡ table) }
+    {
+        let places = all_places(alloc, table.len())?;
+        let shared = SharedTable::of(alloc, table)?;
+        Ok(Ad {
+            table: shared,
+            places,
+        })
+    }
+
+    // As `set`, in the ad's own table, in which there is room. Where the ad does not stand alone,
+    // the answer is that memory ran out.
+    fn set_alone(&mut self, alloc: Global, name: &str, expr: Expr) -> Result<(), Memory>
+        requires room { ¬ (IsFullFor name.now self.old) }
+        ensures ok { OnOk result (self.new ≡ with_attribute name.now (tree expr) self.old) }
+        ensures err { OnErr result (self.new ≡ self.old) }
+    {
+        let len = self.places.len();
+        if self.table.len() != len {
+            return Err(Memory);
+        }
+        self.places.reserve(1)?;
+        self.table.put(alloc, name, expr)?;
+        if self.table.len() > len {
+            self.places.push(len as u8).unwrap();
+        }
+        Ok(())
     }
 }
 
@@ -192,43 +276,24 @@ impl Ad {
     }
 }
 
-// Puts an expression under a name of a table.
-fn put(
-    attributes: &mut IndexMap<Name, Expr>,
-    alloc: Global,
-    name: &str,
-    expr: Expr,
-) -> Result<(), Memory>
-    ensures ok { OnOk result (
-        named_trees attributes.new.entries
-        ≡ with_attribute name.now (tree expr) (named_trees attributes.old.entries)) }
-    ensures err { OnErr result (attributes.new.entries ≡ attributes.old.entries) }
-{
-    if let Some(place) = attributes.get_index_of(NameKey(name)) {
-        attributes[place] = expr;
-        return Ok(());
-    }
-    let name = Name::new(alloc, name)?;
-    attributes.insert(name, expr)?;
-    Ok(())
-}
-
 impl fmt::Debug for Ad {
     fn fmt<W: fmt::Write>(&self, f: &mut fmt::Formatter<W>) -> fmt::Result {
         let mut shown = f.debug_map();
-        for (name, expr) in &self.attributes {
-            shown.entry(name, expr);
+        for place in 0..self.len() {
+            if let Some((name, expr)) = self.attribute(place) {
+                shown.entry(&name, expr);
+            }
         }
         shown.finish()
     }
 }
 
 impl Copied for Ad {
+    // One allocation: the table is shared.
     fn copy(&self, alloc: Global) -> Result<Ad, Memory> {
-        let mut attributes = IndexMap::new(alloc);
-        for (name, expr) in &self.attributes {
-            put(&mut attributes, alloc, name.as_str(), expr.copy(alloc)?)?;
-        }
-        Ok(Ad { attributes })
+        Ok(Ad {
+            table: self.table.copy(alloc)?,
+            places: copy_places(alloc, &self.places)?,
+        })
     }
 }

@@ -4,6 +4,10 @@
 mod ad;
 mod name;
 mod operator;
+mod places;
+mod shared;
+mod table;
+mod threads;
 mod tree;
 
 pub use ad::{Ad, AdList, MAX_ATTRIBUTES, SetError};

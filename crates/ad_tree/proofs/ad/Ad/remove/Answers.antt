@@ -1,33 +1,29 @@
-use Rattle.std.proofs.Common.{◌≡◌, ap, sym, ◌∙◌, subst, length, is_some, arith}
-use Rattle.ad_tree.specs.Ad.{named_trees, lookup, without, AreDistinct}
-use Rattle.ad_tree.specs.Tree.{tree}
-use Rattle.ad_tree.proofs.AdLemmas.{named_trees-shift_remove_entry, lookup-named_trees, AreDistinct-without, length-without-le, length-named_trees, is_some-option_map, IsSome-from}
+-- The place of the name is gone, and the rest keeps its order.
+use Rattle.std.proofs.Common.{◌≡◌, ap, sym, ◌∙◌, subst, is_some, Some, true, false}
+use Rattle.ad_tree.specs.Ad.{place_of, without}
+use Rattle.ad_tree.specs.Places.{attributes_at, IsAdOver}
+use Rattle.ad_tree.proofs.PlacesLemmas.{IsAdOver-remove, IsSome-lookup, attributes_at-without, without-no_place}
 use Rattle.ad_tree.proofs.ad.Ad.remove.Goals as goal
 
 pub invariant_of-self : goal.invariant_of-self
 invariant_of-self c =
     let name = c.args.name.now in
-    let old = c.self.inside.attributes.entries in
-    let new = c.shift_remove.new.self.entries in
-    let rest : named_trees new ≡ without name (named_trees old) = ap named_trees c.shift_remove.ensures.entries ∙ named_trees-shift_remove_entry name old in (
-      subst AreDistinct (sym rest) (AreDistinct-without name (named_trees old) c.self.invariant.0),
-      omega (arith, length-named_trees old, length-named_trees new, length-without-le name (named_trees old), ap length rest, c.self.invariant.1),
-    )
+    let table = c.self.inside.table in
+    let at : place_of name (attributes_at table c.self.inside.places.items) ≡ Some c.in-Some.place = ap (place_of name) c.self.view_is ∙ sym c.in-Some.ensures in
+    subst (IsAdOver table) (sym c.remove.ensures.items) (IsAdOver-remove name table c.self.inside.places.items c.in-Some.place c.self.invariant at)
 
-pub returns-clause-found : goal.returns-clause-found
-returns-clause-found c =
-    let name = c.args.name.now in
-    let old = c.self.inside.attributes.entries in
-    let there : c.is_some.result ≡ is_some (lookup name c.args.self.now) =
-    c.is_some.ensures
-    ∙ ap is_some c.shift_remove.ensures.value
-    ∙ sym (is_some-option_map tree _)
-    ∙ ap is_some (sym (lookup-named_trees name old) ∙ ap (lookup name) c.self.view_is) in
-    IsSome-from c.is_some.result (lookup name c.args.self.now) there
+pub returns-in-Some-clause-found : goal.returns-in-Some-clause-found
+returns-in-Some-clause-found c = IsSome-lookup c.args.name.now c.args.self.now true (ap is_some c.in-Some.ensures)
 
-pub returns-clause-rest : goal.returns-clause-rest
-returns-clause-rest c =
+pub returns-in-Some-clause-rest : goal.returns-in-Some-clause-rest
+returns-in-Some-clause-rest c =
     let name = c.args.name.now in
-    ap named_trees c.shift_remove.ensures.entries
-    ∙ named_trees-shift_remove_entry name c.self.inside.attributes.entries
-    ∙ ap (without name) c.self.view_is
+    let table = c.self.inside.table in
+    let at : place_of name (attributes_at table c.self.inside.places.items) ≡ Some c.in-Some.place = ap (place_of name) c.self.view_is ∙ sym c.in-Some.ensures in
+    ap (attributes_at table) c.remove.ensures.items ∙ attributes_at-without name table c.self.inside.places.items c.in-Some.place at ∙ ap (without name) c.self.view_is
+
+pub returns-in-None-clause-found : goal.returns-in-None-clause-found
+returns-in-None-clause-found c = IsSome-lookup c.args.name.now c.args.self.now false (ap is_some c.in-None.ensures)
+
+pub returns-in-None-clause-rest : goal.returns-in-None-clause-rest
+returns-in-None-clause-rest c = sym (without-no_place c.args.name.now c.args.self.now (sym c.in-None.ensures))
