@@ -14,7 +14,7 @@ use Rattle.ad_tree.specs.Tree.{Tree, items, no_trees}
 use Rattle.ad_value.specs.Names.{same_name}
 use Rattle.ad_tree.specs.NameLaws.{same_name_equivalence}
 use Rattle.ad_tree.specs.Ad.{Attributes, names, lookup, place_of, with_attribute, without, AreDistinct}
-use Rattle.ad_tree.specs.Places.{attribute_at, attributes_at, AreBelow, IsAdOver}
+use Rattle.ad_tree.specs.Places.{attribute_at, attributes_at, AreBelow, AreAll, IsAdOver}
 use Rattle.ad_tree.proofs.AdLemmas.{none_at, other_way, is_some-option_map, IsSome-from, AreDistinct-without, AreDistinct-with_attribute, length-with_attribute-le, length-with_attribute-within}
 
 -- ---- the first place at which a test passes, by recursion
@@ -54,6 +54,9 @@ lookup-found x (a ∷ ad) = by (same_name x a.0) (found (same_name x) (names ad)
 none_some : {A : Type 0} {y : A} → None ≡ Some y → ⊥
 none_some e = cc
 
+some_none : {A : Type 0} {y : A} → Some y ≡ None → ⊥
+some_none e = cc
+
 some_is : {A : Type 0} {y z : A} → Some y ≡ Some z → y ≡ z
 some_is e = cc
 
@@ -72,14 +75,8 @@ without-absent x (a ∷ ad) e = by (same_name x a.0) (found (same_name x) (names
   where
     by : (b : Bool) (o : Option ℕ) → (o ≡ None → without x ad ≡ ad) → cond b (Some 0) (option_map suc o) ≡ None → cond b ad (a ∷ without x ad) ≡ a ∷ ad
     by true o rest e = absurd (some_none e)
-      where
-        some_none : {A : Type 0} {y : A} → Some y ≡ None → ⊥
-        some_none e = cc
     by false None rest e = ap (λ l. a ∷ l) (rest refl)
     by false (Some q) rest e = absurd (some_none e)
-      where
-        some_none : {A : Type 0} {y : A} → Some y ≡ None → ⊥
-        some_none e = cc
 
 -- ---- an attribute of a table bears a name exactly at the name's place
 abbrev is_at : ℕ → Option ℕ → Bool
@@ -188,9 +185,6 @@ slice_get-attributes_at t (j ∷ ks) (suc i) k below at = slice_get-attributes_a
 pub slice_get-attributes_at-past : (t : Attributes) (ks : List ℕ) (i : ℕ) → slice_get ks i ≡ None → slice_get (attributes_at t ks) i ≡ None
 slice_get-attributes_at-past t [] i at = refl
 slice_get-attributes_at-past t (j ∷ ks) zero at = absurd (some_none at)
-  where
-    some_none : {A : Type 0} {y : A} → Some y ≡ None → ⊥
-    some_none e = cc
 slice_get-attributes_at-past t (j ∷ ks) (suc i) at = slice_get-attributes_at-past t ks i at
 
 -- ---- an attribute is removed
@@ -295,15 +289,15 @@ built_more ad t k a distinct is at =
     ap (with_attribute a.0 a.1) is ∙ take-with_attribute ad k a distinct at ∙ ap (λ n. take n ad) more
 
 -- an attribute is set in a table of which all is shown: what is then shown, all again
-pub IsAdOver-set : (x : List ℕ) (e : Tree) (t u : Attributes) (ks ls : List ℕ) → IsAdOver t ks → ((lookup x t ≡ None) × (length t ≡ 256) → ⊥) → u ≡ with_attribute x e t → ls ≡ range_with_len 0 (length u) → IsAdOver u ls
+pub IsAdOver-set : (x : List ℕ) (e : Tree) (t u : Attributes) (ks ls : List ℕ) → IsAdOver t ks → ((lookup x t ≡ None) × (length t ≡ 256) → ⊥) → u ≡ with_attribute x e t → AreAll u ls → IsAdOver u ls
 IsAdOver-set x e t u ks ls shown room is places =
     IsAdOver-all u (length u) ls (subst AreDistinct (sym is) (AreDistinct-with_attribute x e t shown.1.0)) (omega (arith, ap length is, length-with_attribute-within x e t room shown.1.1)) refl places
 
-pub attributes_at-set : (x : List ℕ) (e : Tree) (t u : Attributes) (ks ls : List ℕ) → IsAdOver t ks → length ks ≡ length t → u ≡ with_attribute x e t → ls ≡ range_with_len 0 (length u) → attributes_at u ls ≡ with_attribute x e (attributes_at t ks)
+pub attributes_at-set : (x : List ℕ) (e : Tree) (t u : Attributes) (ks ls : List ℕ) → IsAdOver t ks → length ks ≡ length t → u ≡ with_attribute x e t → AreAll u ls → attributes_at u ls ≡ with_attribute x e (attributes_at t ks)
 attributes_at-set x e t u ks ls shown same is places =
     ap (attributes_at u) places ∙ attributes_at-all u ∙ is ∙ ap (with_attribute x e) (sym (attributes_at-whole t ks shown same))
 
-pub places-kept : (x : List ℕ) (e : Tree) (t u : Attributes) (ks : List ℕ) → IsAdOver t ks → length ks ≡ length t → u ≡ with_attribute x e t → length u ≤ length ks → ks ≡ range_with_len 0 (length u)
+pub places-kept : (x : List ℕ) (e : Tree) (t u : Attributes) (ks : List ℕ) → IsAdOver t ks → length ks ≡ length t → u ≡ with_attribute x e t → length u ≤ length ks → AreAll u ks
 places-kept x e t u ks shown same is less =
     let long : length t ≡ length u = omega (arith, same, less, ap length is, length-with_attribute-ge x e t) in
     shown.0.2 same ∙ ap (range_with_len 0) long

@@ -1,7 +1,7 @@
 ghost use Rattle.std.specs.Prelude.{◌≡◌, ◌↔◌, ◌≤◌, [], length, slice_get, IfOk, IsSome, IsTrue, OnOk, OnErr, IsErrOf};
 ghost use Rattle.std.specs.Option.{option_map};
 
-use crate::places::{all_places, copy_places, own_place, table_place};
+use crate::places::{all_places, own_place, table_place};
 use crate::shared::SharedTable;
 use crate::table::Table;
 use crate::tree::Expr;
@@ -133,14 +133,14 @@ impl Ad {
         if self.table.len() == self.places.len() {
             return Some(place);
         }
-        own_place(&self.places, place)
+        own_place(self.places.as_slice(), place)
     }
 
     /// The name and the expression at a place, without memory. Computes in O(1).
     pub fn attribute(&self, place: usize) -> Option<(&str, &Expr)>
         ensures { option_map (λ a. (a.0.now, tree a.1.now)) result ≡ slice_get self.now place }
     {
-        let place = table_place(&self.places, place)?;
+        let place = table_place(self.places.as_slice(), place)?;
         self.table.attribute(place)
     }
 
@@ -293,7 +293,7 @@ impl Copied for Ad {
     fn copy(&self, alloc: Global) -> Result<Ad, Memory> {
         Ok(Ad {
             table: self.table.copy(alloc)?,
-            places: copy_places(alloc, &self.places)?,
+            places: self.places.clone()?,
         })
     }
 }

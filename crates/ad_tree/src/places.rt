@@ -7,8 +7,8 @@ use ad_value::Memory;
 use std::alloc::Global;
 
 /// The place in the table of the attribute that stands here in the ad. Computes in O(1).
-pub fn table_place(places: &Vec<u8>, here: usize) -> Option<usize>
-    ensures { result ≡ slice_get places.now.items here }
+pub fn table_place(places: &[u8], here: usize) -> Option<usize>
+    ensures { result ≡ slice_get places.now here }
 {
     match places.get(here) {
         Some(place) => Some(usize::from(*place)),
@@ -17,19 +17,10 @@ pub fn table_place(places: &Vec<u8>, here: usize) -> Option<usize>
 }
 
 /// The place in the ad of what stands there in the table. Computes in O(places).
-pub fn own_place(places: &Vec<u8>, there: usize) -> Option<usize>
-    ensures { result ≡ position (λ k. k == there) places.now.items }
+pub fn own_place(places: &[u8], there: usize) -> Option<usize>
+    ensures { result ≡ position (λ k. k == there) places.now }
 {
     places.iter().position(|place| usize::from(*place) == there)
-}
-
-/// The same places. Computes in O(places), with one allocation.
-pub fn copy_places(alloc: Global, places: &Vec<u8>) -> Result<Vec<u8>, Memory>
-    ensures { IfOk result (λ copy. copy.items ≡ places.now.items) }
-{
-    let mut copy = Vec::with_capacity(alloc, places.len())?;
-    copy.extend_from_slice(places.as_slice())?;
-    Ok(copy)
 }
 
 /// All places of a table of so many attributes, and memory for one more. Computes in O(places).

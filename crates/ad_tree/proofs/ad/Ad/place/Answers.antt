@@ -1,5 +1,5 @@
 -- The place of a name is that of its place in the table.
-use Rattle.std.proofs.Common.{◌≡◌, ap, sym, ◌∙◌, length, arith}
+use Rattle.std.proofs.Common.{◌≡◌, ap, sym, ◌∙◌, length, arith, position, ◌==◌}
 use Rattle.ad_tree.specs.Ad.{place_of}
 use Rattle.ad_tree.proofs.PlacesLemmas.{place_of-attributes_at, place_of-attributes_at-absent, attributes_at-whole}
 use Rattle.ad_tree.proofs.ad.Ad.place.Goals as goal
@@ -15,6 +15,7 @@ pub returns : goal.returns
 returns c =
     let name = c.args.name.now in
     c.own_place.ensures
+    ∙ ap (position (λ k. k == c.in_ok-place.place)) c.as_slice.ensures.value
     ∙ place_of-attributes_at name c.self.inside.table c.self.inside.places.items c.in_ok-place.place c.self.invariant (sym c.in_ok-place.ensures)
     ∙ ap (place_of name) c.self.view_is
 
