@@ -1,0 +1,22 @@
+//! What a slot's ad has, in the order of the ad (HTCondor manual, Machine ClassAd Attributes).
+
+/// `"Machine"`, the kind of the ad.
+pub const MY_TYPE: &str = "MyType";
+/// `slotK@MACHINE`.
+pub const NAME: &str = "Name";
+/// Its machine.
+pub const MACHINE: &str = "Machine";
+/// Its number on the machine, from 1.
+pub const SLOT_ID: &str = "SlotID";
+/// The operating system.
+pub const OP_SYS: &str = "OpSys";
+/// The kind of processor.
+pub const ARCH: &str = "Arch";
+/// How many processors it has.
+pub const CPUS: &str = "Cpus";
+/// How much memory it has, in MiB.
+pub const MEMORY: &str = "Memory";
+/// How much disk it has, in KiB.
+pub const DISK: &str = "Disk";
+/// Which jobs it starts.
+pub const START: &str = "Start";
