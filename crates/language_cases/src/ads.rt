@@ -89,7 +89,8 @@ fn ask_of(alloc: Global, asked: Asked<'_>, my: &Ad, out: &mut String) -> Result<
     }
 }
 
-fn bad_ad(case: Case<'_>, error: AdError) -> CaseError {
+/// What is wrong with a case whose ad is refused.
+pub(crate) fn bad_ad(case: Case<'_>, error: AdError) -> CaseError {
     match error {
         AdError::Memory => CaseError::Memory,
         _ => CaseError::Form { line: case.line },

@@ -2,11 +2,13 @@
 //! answer a line on standard output.
 //!
 //! `expr TEXT`, `ad TEXT`, `eval MY TARGET NAME NOW`, `holds MY TARGET NAME NOW`,
-//! `rank MY TARGET NOW`, `judge JOB SLOT NOW`: README.md says what each answers.
+//! `rank MY TARGET NOW`, `judge JOB SLOT NOW`, `apart AD NAME MORE`: README.md says what each
+//! answers.
 #![tactic(auto)]
 
 mod ads;
 mod answers;
+mod copies;
 mod texts;
 
 use crate::answers::answer_all;

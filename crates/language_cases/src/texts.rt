@@ -52,13 +52,16 @@ pub(crate) fn answer_ad(alloc: Global, case: Case<'_>, out: &mut String) -> Resu
 
 fn write_ad(alloc: Global, text: &str, out: &mut String) -> Result<(), AllocError> {
     match parse_ad(alloc, text) {
-        Ok(ad) => write_attributes(alloc, &ad, out),
+        Ok(ad) => {
+            out.push_str("ok")?;
+            write_attributes(alloc, &ad, out)
+        }
         Err(error) => write_ad_refusal(error, out),
     }
 }
 
-fn write_attributes(alloc: Global, ad: &Ad, out: &mut String) -> Result<(), AllocError> {
-    out.push_str("ok")?;
+/// Appends a field for each attribute of an ad.
+pub(crate) fn write_attributes(alloc: Global, ad: &Ad, out: &mut String) -> Result<(), AllocError> {
     for place in 0..ad.len() {
         if let Some((name, expr)) = ad.attribute(place) {
             write!(out, "\t{name} = ")?;
