@@ -14,10 +14,10 @@ use Rattle.ad_parse.proofs.Settings.{skipped_from, skipped_is, setting_from_part
 
 -- ---- from the lines to what the definition gives
 
-line_skipped : (n : ℕ) (ad : Attributes) (line : List ℕ) → is_skipped line ≡ true → with_line n ad line ≡ Ok ad
+pub line_skipped : (n : ℕ) (ad : Attributes) (line : List ℕ) → is_skipped line ≡ true → with_line n ad line ≡ Ok ad
 line_skipped n ad line is = ap (λ b. cond b (Ok ad) (with_setting n ad (setting line))) is
 
-line_set : (n : ℕ) (ad : Attributes) (line name text : List ℕ) (e : Tree) → is_skipped line ≡ false → setting line ≡ Some (name, text) → expression_at text ≡ Ok e
+pub line_set : (n : ℕ) (ad : Attributes) (line name text : List ℕ) (e : Tree) → is_skipped line ≡ false → setting line ≡ Some (name, text) → expression_at text ≡ Ok e
     → is_full_for name ad ≡ false → with_line n ad line ≡ Ok (with_attribute name e ad)
 line_set n ad line name text e more is read room =
     ap (λ b. cond b (Ok ad) (with_setting n ad (setting line))) more

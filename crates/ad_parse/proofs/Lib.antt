@@ -21,3 +21,4 @@ pub mod Reread
 pub mod Passing
 pub mod Settings
 pub mod AdTexts
+pub mod AdRefusals

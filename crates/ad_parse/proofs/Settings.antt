@@ -27,14 +27,14 @@ or_left false b h = absurd (let z : false ≡ true = h in cc)
 or_none : (a b : Bool) → a ≡ false → b ≡ false → (a || b) ≡ false
 or_none a b g h = ap (λ x. x || b) g ∙ h
 
-and_parts : (a b : Bool) → (a && b) ≡ true → (a ≡ true) × (b ≡ true)
+pub and_parts : (a b : Bool) → (a && b) ≡ true → (a ≡ true) × (b ≡ true)
 and_parts true b h = (refl, h)
 and_parts false b h = absurd (let z : false ≡ true = h in cc)
 
 and_both : (a b : Bool) → a ≡ true → b ≡ true → (a && b) ≡ true
 and_both a b g h = ap (λ x. x && b) g ∙ h
 
-not_true : (a : Bool) → not a ≡ true → a ≡ false
+pub not_true : (a : Bool) → not a ≡ true → a ≡ false
 not_true true h = absurd (let z : false ≡ true = h in cc)
 not_true false h = refl
 
@@ -48,7 +48,7 @@ eq_false m n h = by (m == n) refl
     by true e = absurd (h (eqb-true m n e))
     by false e = refl
 
-no_option : {A : Type 0} (o : Option A) → is_some o ≡ false → o ≡ None
+pub no_option : {A : Type 0} (o : Option A) → is_some o ≡ false → o ≡ None
 no_option None h = refl
 no_option (Some x) h = absurd (let z : true ≡ false = h in cc)
 

@@ -1,15 +1,18 @@
 -- What it means that a text says an ad: each line is skipped, or sets an attribute for which there
--- is room.
+-- is room. And why another text is refused.
 use Rattle.ad_value.specs.Bytes.{code}
-use Rattle.std.specs.Prelude.{◌≡◌, ◌⊎◌, ℕ, ◌-◌, ◌<◌, ◌≤◌, true, false, List, [], ◌∷◌, ◌++◌, length, codes, slice_index, None, IsSome}
+use Rattle.std.specs.Prelude.{◌≡◌, ◌⊎◌, ℕ, ◌+◌, ◌-◌, ◌^◌, ◌<◌, ◌≤◌, min, true, false, List, [], ◌∷◌, ◌++◌, length, codes, slice_index, None, IsSome}
 use Rattle.std.specs.List.{AllPass}
 use Rattle.ad_tree.specs.declared.ad.TheConstants.{MAX_ATTRIBUTES}
 use Rattle.ad_tree.specs.Tree.{Tree}
-use Rattle.ad_tree.specs.Ad.{Attributes, lookup, with_attribute}
+use Rattle.ad_tree.specs.Ad.{Attributes, lookup, with_attribute, IsFullFor}
 use Rattle.ad_token.specs.declared.names.TheConstants.{MAX_NAME}
 use Rattle.ad_token.specs.Names.{is_letter, is_name_byte, word_of}
 use Rattle.ad_token.specs.Lexing.{is_blank}
-use Rattle.ad_parse.specs.ExprText.{IsExprText}
+use Rattle.ad_parse.specs.declared.error.ParseError.{ParseError}
+use Rattle.ad_parse.specs.declared.error.AdError.{AdError}
+use Rattle.ad_parse.specs.declared.error.AdError.TheVariants as fault
+use Rattle.ad_parse.specs.ExprText.{IsExprText, IsRefused}
 use Rattle.ad_parse.specs.AdText.{lines_of_text}
 
 abbrev pub AreBlanks : List ℕ → Type 0
@@ -61,3 +64,28 @@ pub data AreAdLines : Attributes → List (List ℕ) → Attributes → Type 0 w
 
 abbrev pub IsAdText : List ℕ → Attributes → Type 0
 IsAdText text ad = AreAdLines [] (lines_of_text text) ad
+
+-- why a line neither is skipped nor sets an attribute of an ad, where n is its number
+pub data IsRefusedLine (n : ℕ) (ad : Attributes) (line : List ℕ) : AdError → Type 0 where
+  no_setting : (IsSkipped line → ⊥) → ((name text : List ℕ) → IsSetting line name text → ⊥)
+      → IsRefusedLine n ad line (fault.BadLine n)
+  no_expression : {name text : List ℕ} {f : ParseError}
+      → IsSetting line name text → IsRefused text f → IsRefusedLine n ad line (fault.Expr n f)
+  no_room : {name text : List ℕ} {e : Tree}
+      → IsSetting line name text → IsExprText text e → IsFullFor name ad
+      → IsRefusedLine n ad line (fault.Full n)
+
+-- the number of the line that stands after others; it stops at the greatest of 32 bits
+abbrev pub number_after : List (List ℕ) → ℕ
+number_after lines = min (1 + length lines) (2 ^ 32 - 1)
+
+-- The first line that neither is skipped nor sets an attribute of the ad that the lines before it
+-- say, with its cause.
+pub record IsAdRefused (text : List ℕ) (f : AdError) : Type 0 where
+  pub before : List (List ℕ)
+  pub line : List ℕ
+  pub later : List (List ℕ)
+  pub ad : Attributes
+  pub parts : lines_of_text text ≡ before ++ line ∷ later
+  pub so_far : AreAdLines [] before ad
+  pub refused : IsRefusedLine (number_after before) ad line f

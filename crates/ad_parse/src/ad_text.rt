@@ -1,11 +1,14 @@
 // From a text to an ad.
 
-ghost use Rattle.std.specs.Prelude.{◌≡◌, ◌≤◌, length};
+ghost use Rattle.std.specs.Prelude.{◌≡◌, ◌≢◌, ◌≤◌, length, IfOk, IfErr, Ok, Err};
 ghost use Rattle.std.specs.List.{prefix_len, suffix_len};
 ghost use Rattle.std.specs.Option.{option_map};
+ghost use Rattle.ad_tree.specs.Ad.{Attributes};
 ghost use Rattle.ad_tree.specs.Tree.{tree};
 ghost use Rattle.ad_token.specs.Lexing.{is_blank};
+ghost use Rattle.ad_parse.specs.declared.error.AdError.{AdError};
 ghost use Rattle.ad_parse.specs.ExprText.{expression_at};
+ghost use Rattle.ad_parse.specs.AdLines.{IsAdText, IsAdRefused};
 ghost use Rattle.ad_parse.specs.AdText.{GivesAd, ad_at, with_line, with_expression, unless_refused, at_line, is_skipped, is_attribute_name, setting, setting_from, around_sign, past_blanks, trimmed_end, trimmed_text};
 
 use crate::error::{AdError, ParseError};
@@ -19,6 +22,20 @@ use std::alloc::Global;
 /// name replaces the expression of the earlier one. Computes in O(bytes of the text and of the
 /// canonical texts) where names do not collide.
 pub fn parse_ad(alloc: Global, text: &str) -> Result<Ad, AdError>
+    // What is read is what the text says.
+    ensures found { IfOk result (λ ad. IsAdText text.now ad) }
+    // What a text says is read, unless memory runs out.
+    ensures only { (ad : Attributes) → IsAdText text.now ad → GivesAd (λ a. a) result (Ok ad) }
+    // A refusal has its line and its cause.
+    ensures refused { IfErr result (λ f. f ≢ AdError.Memory → IsAdRefused text.now f) }
+    // A text that has a cause is refused for it, unless memory runs out.
+    ensures exact { (f : AdError) → IsAdRefused text.now f → GivesAd (λ a. a) result (Err f) }
+{
+    read_lines(alloc, text)
+}
+
+// The same, as a function of the text.
+fn read_lines(alloc: Global, text: &str) -> Result<Ad, AdError>
     ensures { GivesAd (λ a. a) result (ad_at text.now) }
 {
     let mut ad = Ad::new(alloc);

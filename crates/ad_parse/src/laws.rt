@@ -1,15 +1,16 @@
 //! Laws of the definitions, each the contract of a function that does nothing.
 
-ghost use Rattle.std.specs.Prelude.{◌≡◌, ◌↔◌, ◌⊎◌, ℕ, List, Ok};
+ghost use Rattle.std.specs.Prelude.{◌≡◌, ◌↔◌, ◌⊎◌, ℕ, List, Ok, Err};
 ghost use Rattle.ad_tree.specs.Tree.{Tree};
 ghost use Rattle.ad_tree.specs.Ad.{Attributes};
 ghost use Rattle.ad_token.specs.declared.token.Placed.{Placed};
 ghost use Rattle.ad_token.specs.Canonical.{tokens_in};
 ghost use Rattle.ad_parse.specs.declared.error.ParseError.{ParseError};
+ghost use Rattle.ad_parse.specs.declared.error.AdError.{AdError};
 ghost use Rattle.ad_parse.specs.Canon.{canon};
 ghost use Rattle.ad_parse.specs.ExprText.{IsExprText, IsRefused};
 ghost use Rattle.ad_parse.specs.AdText.{ad_at};
-ghost use Rattle.ad_parse.specs.AdLines.{IsAdText};
+ghost use Rattle.ad_parse.specs.AdLines.{IsAdText, IsAdRefused};
 ghost use Rattle.ad_parse.specs.Grammar.{IsText};
 ghost use Rattle.ad_parse.specs.Spelling.{spell};
 
@@ -38,7 +39,8 @@ pub fn canonical_texts_say_the_same()
 {}
 
 /// A text says an ad exactly where each of its lines is skipped, or sets an attribute for which
-/// there is room.
+/// there is room. Every other text is refused for its first line that does neither.
 pub fn ad_texts_are_read()
-    ensures { (text : List ℕ) (ad : Attributes) → (ad_at text ≡ Ok ad) ↔ IsAdText text ad }
+    ensures found { (text : List ℕ) (ad : Attributes) → (ad_at text ≡ Ok ad) ↔ IsAdText text ad }
+    ensures refused { (text : List ℕ) (f : AdError) → (ad_at text ≡ Err f) ↔ IsAdRefused text f }
 {}

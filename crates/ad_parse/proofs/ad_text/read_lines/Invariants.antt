@@ -2,7 +2,7 @@
 use Rattle.std.proofs.Common.{◌≡◌, ℕ, List}
 use Rattle.ad_parse.specs.AdText.{ad_at, with_lines}
 use Rattle.ad_parse.proofs.Lines.{AreLeft}
-use Rattle.ad_parse.proofs.ad_text.parse_ad.Given as goal
+use Rattle.ad_parse.proofs.ad_text.read_lines.Given as goal
 
 abbrev pub invariant-loop-line : goal.invariant-loop-line
 invariant-loop-line l =
