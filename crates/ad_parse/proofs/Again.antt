@@ -23,19 +23,19 @@ use Rattle.ad_parse.specs.Spelling.{literal_token, prefix_token, spell_within, s
 use Rattle.ad_parse.proofs.Moved.{moved_cond, no_tokens}
 
 -- a token at the start of the text
-abbrev mark : Token → Placed
+abbrev pub mark : Token → Placed
 mark t = record { at = 0; token = t }
 
 -- tokens before others
-abbrev place : List Token → List Placed → List Placed
+abbrev pub place : List Token → List Placed → List Placed
 place [] vs = vs
 place (t ∷ ts) vs = mark t ∷ place ts vs
 
-place-append : (a b : List Token) (vs : List Placed) → place (a ++ b) vs ≡ place a (place b vs)
+pub place-append : (a b : List Token) (vs : List Placed) → place (a ++ b) vs ≡ place a (place b vs)
 place-append [] b vs = refl
 place-append (t ∷ a) b vs = ap (λ x. mark t ∷ x) (place-append a b vs)
 
-tokens_in-place : (a : List Token) → tokens_in (place a []) ≡ a
+pub tokens_in-place : (a : List Token) → tokens_in (place a []) ≡ a
 tokens_in-place [] = refl
 tokens_in-place (t ∷ a) = ap (λ x. t ∷ x) (tokens_in-place a)
 
@@ -76,19 +76,19 @@ no_level (operand a) = elim a [ ]
 no_level (single a) = no_level a
 no_level (chained a b) = no_level a
 
-alone_at : (n : ℕ) (ts us : List Placed) (e : Tree) → IsLevel 6 n ts e us → IsCond n ts e us
+pub alone_at : (n : ℕ) (ts us : List Placed) (e : Tree) → IsLevel 6 n ts e us → IsCond n ts e us
 alone_at zero ts us e a = absurd (no_level a)
 alone_at (suc n) ts us e a = alone a
 
 -- a place takes what a tighter one does
-lift : (l k n : ℕ) (ts us : List Placed) (e : Tree) → l ≤ k → IsLevel l n ts e us → IsLevel k n ts e us
+pub lift : (l k n : ℕ) (ts us : List Placed) (e : Tree) → l ≤ k → IsLevel l n ts e us → IsLevel k n ts e us
 lift l zero n ts us e h a = let z : l ≡ 0 = omega arith in subst (λ x. IsLevel x n ts e us) z a
 lift l (suc k) n ts us e h a = elim (eq-or-lt_of_le h) [
   | inl z ↦ subst (λ x. IsLevel x n ts e us) z a
   | inr z ↦ single (lift l k n ts us e (omega arith) a)
 ]
 
-rests_op : {l n : ℕ} {ts us : List Placed} {op : BinOp} {e : Tree} {rs : Rests} → IsRests l n ts (and_rest op e rs) us → level_of op ≡ suc l
+pub rests_op : {l n : ℕ} {ts us : List Placed} {op : BinOp} {e : Tree} {rs : Rests} → IsRests l n ts (and_rest op e rs) us → level_of op ≡ suc l
 rests_op (more i k a b) = k
 
 tighter_by_one : {l n : ℕ} {ts us : List Placed} {e : Tree} → IsLevel (suc l) n ts e us → looseness e ≤ l → IsLevel l n ts e us
@@ -140,7 +140,7 @@ bracketed_here n k e false f t top vs =
 looser : (l n : ℕ) (e : Tree) → Here l n e → Here (suc l) n e
 looser l n e h = record { level = λ k g top vs. h.level k (omega arith) top vs; cond = h.cond }
 
-level_small : (op : BinOp) → level_of op ≤ 6
+pub level_small : (op : BinOp) → level_of op ≤ 6
 level_small bin.Multiply = omega arith
 level_small bin.Divide = omega arith
 level_small bin.Modulo = omega arith

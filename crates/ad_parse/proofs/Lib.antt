@@ -22,3 +22,5 @@ pub mod Passing
 pub mod Settings
 pub mod AdTexts
 pub mod AdRefusals
+pub mod Literals
+pub mod Shortest

@@ -69,5 +69,5 @@ mutual
   proper_more (last i) f = (tt, f.1)
   proper_more (another i a c) f = let x = proper_cond a f.1 in let y = proper_more c x.1 in ((x.0, y.0), y.1)
 
-pub what_is_read_is_proper : (text : List ℕ) (e : Tree) → IsText (tokens_of text) e → Proper e
+pub what_is_read_is_proper : {n : ℕ} (text : List ℕ) (e : Tree) → IsCond n (tokens_of text) e [] → Proper e
 what_is_read_is_proper text e is = (proper_cond is (fit (tokens_of text) (tokens_fit text))).0

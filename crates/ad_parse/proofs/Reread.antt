@@ -12,7 +12,7 @@ use Rattle.ad_parse.proofs.Pieces.{Proper, pieces, joined_is_canon, joined_is_sp
 use Rattle.ad_parse.proofs.Apart.{pieces_apart}
 use Rattle.ad_parse.proofs.Proper.{what_is_read_is_proper}
 
-canon_spells : (e : Tree) → Proper e → tokens_in (tokens_of (canon e)) ≡ spell e
+pub canon_spells : (e : Tree) → Proper e → tokens_in (tokens_of (canon e)) ≡ spell e
 canon_spells e h = ap kinds_of (sym (joined_is_canon e h)) ∙ joined_read (pieces e []) (pieces_apart e h) ∙ joined_is_spelling e
 
 pub again : (text : List ℕ) (e : Tree) → IsExprText text e → IsExprText (canon e) e

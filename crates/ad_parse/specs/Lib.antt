@@ -9,3 +9,4 @@ pub mod ExprText
 pub mod Spelling
 pub mod AdText
 pub mod AdLines
+pub mod ValueText
