@@ -19,8 +19,8 @@ use Rattle.ad_token.specs.declared.token.Bracket.{Bracket}
 use Rattle.ad_token.specs.declared.token.Bracket.TheVariants.{Round, Curly}
 use Rattle.ad_token.specs.declared.token.Token.{Token}
 use Rattle.ad_token.specs.declared.token.Token.TheVariants as token
-use Rattle.ad_token.specs.Names.{is_letter, is_name_byte, scope_of_prefix}
-use Rattle.ad_token.specs.Canonical.{is_name, is_proper, ends_before, joined_text, are_apart}
+use Rattle.ad_token.specs.Names.{is_letter, is_name_byte, scope_of_prefix, is_name}
+use Rattle.ad_token.specs.Canonical.{is_proper, ends_before, joined_text, are_apart}
 use Rattle.ad_token.proofs.Pieces.{both, neither}
 use Rattle.ad_parse.specs.Operators.{level_of}
 use Rattle.ad_parse.specs.Canon.{rests_level, looseness}

@@ -15,7 +15,8 @@ use Rattle.ad_token.specs.declared.token.Bracket.{Bracket}
 use Rattle.ad_token.specs.declared.token.Bracket.TheVariants.{Round, Curly}
 use Rattle.ad_token.specs.declared.token.Token.{Token}
 use Rattle.ad_token.specs.declared.token.Token.TheVariants as token
-use Rattle.ad_token.specs.Canonical.{operator_text, scope_text, token_text, is_name, is_proper, joined_text, joined_tokens}
+use Rattle.ad_token.specs.Names.{is_name}
+use Rattle.ad_token.specs.Canonical.{operator_text, scope_text, token_text, is_proper, joined_text, joined_tokens}
 use Rattle.ad_parse.specs.Operators.{level_of}
 use Rattle.ad_parse.specs.Canon.{prefix_text, infix_text, rests_level, looseness, canon_within, canon, canon_rests, canon_items, canon_more}
 use Rattle.ad_parse.specs.Spelling.{literal_token, prefix_token, spell_within, spell, spell_rests, spell_items, spell_more}

@@ -8,11 +8,12 @@ use Rattle.std.proofs.lemmas.List.Folds.{length-prefix_len}
 use Rattle.std.proofs.lemmas.List.Sums.{prefix_len_passes}
 use Rattle.std.specs.List.{prefix_len, suffix_len}
 use Rattle.ad_tree.specs.Ad.{Attributes, lookup}
-use Rattle.ad_token.specs.Names.{is_letter, is_name_byte, name_length, leading_name, is_too_long, word_of}
+use Rattle.ad_token.specs.Names.{is_letter, is_name_byte, name_length, leading_name, is_name}
 use Rattle.ad_token.specs.Lexing.{is_blank}
-use Rattle.ad_parse.specs.AdText.{past_blanks, trimmed_end, trimmed_text, is_skipped, is_attribute_name, around_sign, setting_from, setting, is_full_for}
-use Rattle.ad_parse.specs.AdLines.{AreBlanks, IsSkipped, blank, comment, IsAttributeName, IsTrimmed, IsSetting, HasRoom}
-use Rattle.ad_parse.proofs.Passing.{past_run, run_length, before_run, all_append, past_whole, start_passes, start_stops, end_passes, end_stops}
+use Rattle.ad_parse.specs.AdText.{past_blanks, trimmed_end, trimmed_text, is_skipped, around_sign, setting_from, setting, is_full_for}
+use Rattle.ad_parse.specs.AdLines.{AreBlanks, IsSkipped, blank, comment, IsTrimmed, IsSetting, HasRoom}
+use Rattle.ad_token.proofs.Pieces.{NameParts, name_parts_from, run_append}
+use Rattle.ad_parse.proofs.Passing.{past_run, before_run, all_append, past_whole, start_passes, start_stops, end_passes, end_stops}
 
 -- ---- tests
 
@@ -104,21 +105,24 @@ module _ (line name text : List ℕ) (is : IsSetting line name text) where
   whole : line ≡ is.before_name ++ (name ++ tail)
   whole = is.parts
 
+  name_is : NameParts name
+  name_is = name_parts_from name is.name_fits
+
   some : 0 < length name
-  some = by name is.name_fits.begins
+  some = by name name_is.letter
     where
       by : (n : List ℕ) → is_letter (get_or n 0 0) ≡ true → 0 < length n
       by [] h = absurd (let z : false ≡ true = h in cc)
       by (b ∷ n) h = omega arith
 
   first_letter : is_letter (get_or (name ++ tail) 0 0) ≡ true
-  first_letter = subst (λ b. is_letter b ≡ true) (sym (get_or_append_left name tail 0 0 some)) is.name_fits.begins
+  first_letter = subst (λ b. is_letter b ≡ true) (sym (get_or_append_left name tail 0 0 some)) name_is.letter
 
   past : past_blanks line ≡ name ++ tail
   past = ap past_blanks whole ∙ past_run is_blank is.before_name (name ++ tail) is.blanks.0 (λ _. letter_is_no_blank (get_or (name ++ tail) 0 0) first_letter)
 
   long : name_length (name ++ tail) ≡ length name
-  long = ap (λ b. cond b (prefix_len is_name_byte (name ++ tail)) 0) first_letter ∙ run_length is_name_byte name tail is.name_fits.letters (λ _. blank_or_sign is.after_name _ is.blanks.1)
+  long = ap (λ b. cond b (prefix_len is_name_byte (name ++ tail)) 0) first_letter ∙ run_append is_name_byte name tail name_is.bytes (blank_or_sign is.after_name _ is.blanks.1)
 
   after_its_name : past_blanks (drop (name_length (name ++ tail)) (name ++ tail)) ≡ 61 ∷ (is.before_text ++ (text ++ is.after_text))
   after_its_name = ap (λ n. past_blanks (drop n (name ++ tail))) long ∙ ap past_blanks (drop-append_seam name tail) ∙ past_run is_blank is.after_name _ is.blanks.1 (λ _. refl)
@@ -135,21 +139,12 @@ module _ (line name text : List ℕ) (is : IsSetting line name text) where
           ap trimmed_end (past_run is_blank is.before_text ((b ∷ t) ++ is.after_text) is.blanks.2 (λ _. h.begins))
           ∙ before_run is_blank (b ∷ t) is.after_text is.blanks.3 (λ _. h.ends)
 
-  good_name : is_attribute_name name ≡ true
-  good_name =
-      and_both (not (nat_eq (length name) 0)) _ (ap not (eq_false _ _ (λ e. omega (arith, some))))
-      (and_both (not (is_too_long name)) _ (ap not (within (is_too_long name) refl)) (ap (λ o. not (is_some o)) is.name_fits.no_word))
-    where
-      within : (b : Bool) → nat_lt 128 (length name) ≡ b → b ≡ false
-      within true h = absurd (omega (arith, ltb-true 128 (length name) h, is.name_fits.short))
-      within false h = refl
-
   pub setting_from_parts : setting line ≡ Some (name, text)
   setting_from_parts =
       ap setting_from past
       ∙ ap (λ n. around_sign n (past_blanks (drop (name_length (name ++ tail)) (name ++ tail)))) its_name
       ∙ ap (around_sign name) after_its_name
-      ∙ ap (λ b. cond b (Some (name, trimmed_text (is.before_text ++ (text ++ is.after_text)))) None) (and_both (is_attribute_name name) true good_name refl)
+      ∙ ap (λ b. cond b (Some (name, trimmed_text (is.before_text ++ (text ++ is.after_text)))) None) (and_both (is_name name) true is.name_fits refl)
       ∙ ap (λ t. Some (name, t)) its_text
 
   first_no_hash : get_or line 0 0 ≡ 35 → ⊥
@@ -179,29 +174,6 @@ some_is {A} x y e = ap in_some e
     in_some None = x
     in_some (Some z) = z
 
--- what is read of the text after the blanks
-module _ (bs : List ℕ) (good : is_attribute_name (leading_name bs) ≡ true) where
-  of_name : (not (nat_eq (length (leading_name bs)) 0) ≡ true) × ((not (is_too_long (leading_name bs)) ≡ true) × (not (is_some (word_of (leading_name bs))) ≡ true))
-  of_name =
-      let p = and_parts (not (nat_eq (length (leading_name bs)) 0)) _ good in
-      (p.0, and_parts (not (is_too_long (leading_name bs))) _ p.1)
-
-  fitting_name : IsAttributeName (leading_name bs)
-  fitting_name = by (is_letter (get_or bs 0 0)) refl of_name
-    where
-      by : (b : Bool) → is_letter (get_or bs 0 0) ≡ b
-          → (let x = take (cond b (prefix_len is_name_byte bs) 0) bs in (not (nat_eq (length x) 0) ≡ true) × ((not (is_too_long x) ≡ true) × (not (is_some (word_of x)) ≡ true)))
-          → IsAttributeName (take (cond b (prefix_len is_name_byte bs) 0) bs)
-      by true first h =
-          let x = take (prefix_len is_name_byte bs) bs in
-          record {
-            begins = subst (λ c. is_letter c ≡ true) (sym (get_or-take (prefix_len is_name_byte bs) bs 0 0 (omega (arith, length-prefix_len is_name_byte bs, eqb-false (length x) 0 (not_true _ h.0))))) first;
-            letters = start_passes is_name_byte bs;
-            short = ltb-false 128 (length x) (not_true _ h.1.0);
-            no_word = no_option (word_of x) (not_true _ h.1.1);
-          }
-      by false first h = absurd (let z : false ≡ true = h.0 in cc)
-
 sign_first : (l : List ℕ) → get_or l 0 0 ≡ 61 → l ≡ 61 ∷ drop 1 l
 sign_first [] h = absurd (omega (arith, h))
 sign_first (b ∷ l) h = ap (λ c. c ∷ l) h
@@ -212,7 +184,7 @@ bytes_after bs = past_blanks (drop (name_length bs) bs)
 abbrev text_of : List ℕ → List ℕ
 text_of bs = past_blanks (drop 1 (bytes_after bs))
 
-module _ (line bs : List ℕ) (past : bs ≡ past_blanks line) (good : is_attribute_name (leading_name bs) ≡ true) (sign : get_or (bytes_after bs) 0 0 ≡ 61) where
+module _ (line bs : List ℕ) (past : bs ≡ past_blanks line) (good : is_name (leading_name bs) ≡ true) (sign : get_or (bytes_after bs) 0 0 ≡ 61) where
   back : (q : List ℕ) → q ≡ trimmed_end q ++ drop (length q - suffix_len is_blank q) q
   back q = sym (take-append-drop (length q - suffix_len is_blank q) q)
 
@@ -235,7 +207,7 @@ module _ (line bs : List ℕ) (past : bs ≡ past_blanks line) (good : is_attrib
             ∙ ap (λ l. take (prefix_len is_blank gap) gap ++ l) (sign_first (bytes_after bs) sign
             ∙ ap (λ l. 61 ∷ l) (front rest ∙ ap (λ l. take (prefix_len is_blank rest) rest ++ l) (back q)))));
         blanks = (start_passes is_blank line, start_passes is_blank gap, start_passes is_blank rest, end_passes is_blank q);
-        name_fits = fitting_name bs good;
+        name_fits = good;
         text_fits = record {
           begins = first_kept (length q - suffix_len is_blank q) q (first_no_blank q (start_stops is_blank rest));
           ends = last_no_blank (trimmed_end q) (end_stops is_blank q);
@@ -246,11 +218,11 @@ abbrev reading_of : List ℕ → List ℕ × List ℕ
 reading_of line = (leading_name (past_blanks line), trimmed_end (text_of (past_blanks line)))
 
 pub setting_parts : (line name text : List ℕ) → setting line ≡ Some (name, text) → IsSetting line name text
-setting_parts line name text = by (is_attribute_name (leading_name (past_blanks line)) && (get_or (bytes_after (past_blanks line)) 0 0 == 61)) refl
+setting_parts line name text = by (is_name (leading_name (past_blanks line)) && (get_or (bytes_after (past_blanks line)) 0 0 == 61)) refl
   where
-    by : (b : Bool) → (is_attribute_name (leading_name (past_blanks line)) && (get_or (bytes_after (past_blanks line)) 0 0 == 61)) ≡ b → cond b (Some (reading_of line)) None ≡ Some (name, text) → IsSetting line name text
+    by : (b : Bool) → (is_name (leading_name (past_blanks line)) && (get_or (bytes_after (past_blanks line)) 0 0 == 61)) ≡ b → cond b (Some (reading_of line)) None ≡ Some (name, text) → IsSetting line name text
     by true e h =
-        let p = and_parts (is_attribute_name (leading_name (past_blanks line))) _ e in
+        let p = and_parts (is_name (leading_name (past_blanks line))) _ e in
         subst (λ s. IsSetting line s.0 s.1) (some_is (reading_of line) (name, text) h) (read_parts line (past_blanks line) refl p.0 (eqb-true _ _ p.1))
     by false e h = absurd (let z : None ≡ Some (name, text) = h in cc)
 

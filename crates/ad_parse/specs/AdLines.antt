@@ -1,13 +1,12 @@
 -- What it means that a text says an ad: each line is skipped, or sets an attribute for which there
 -- is room. And why another text is refused.
 use Rattle.ad_value.specs.Bytes.{code}
-use Rattle.std.specs.Prelude.{◌≡◌, ◌⊎◌, ℕ, ◌+◌, ◌-◌, ◌^◌, ◌<◌, ◌≤◌, min, true, false, List, [], ◌∷◌, ◌++◌, length, codes, slice_index, None, IsSome}
+use Rattle.std.specs.Prelude.{◌≡◌, ◌⊎◌, ℕ, ◌+◌, ◌-◌, ◌^◌, ◌<◌, min, true, false, List, [], ◌∷◌, ◌++◌, length, codes, slice_index, IsSome}
 use Rattle.std.specs.List.{AllPass}
 use Rattle.ad_tree.specs.declared.ad.TheConstants.{MAX_ATTRIBUTES}
 use Rattle.ad_tree.specs.Tree.{Tree}
 use Rattle.ad_tree.specs.Ad.{Attributes, lookup, with_attribute, IsFullFor}
-use Rattle.ad_token.specs.declared.names.TheConstants.{MAX_NAME}
-use Rattle.ad_token.specs.Names.{is_letter, is_name_byte, word_of}
+use Rattle.ad_token.specs.Names.{is_name}
 use Rattle.ad_token.specs.Lexing.{is_blank}
 use Rattle.ad_parse.specs.declared.error.ParseError.{ParseError}
 use Rattle.ad_parse.specs.declared.error.AdError.{AdError}
@@ -22,13 +21,6 @@ AreBlanks bs = AllPass is_blank bs
 pub data IsSkipped (line : List ℕ) : Type 0 where
   blank : AreBlanks line → IsSkipped line
   comment : slice_index line 0 ≡ code "#" → IsSkipped line
-
--- a letter or `_`, then letters, digits and `_`, not too long, and no word of expressions
-pub record IsAttributeName (name : List ℕ) : Type 0 where
-  pub begins : is_letter (slice_index name 0) ≡ true
-  pub letters : AllPass is_name_byte name
-  pub short : length name ≤ MAX_NAME
-  pub no_word : word_of name ≡ None
 
 -- a text that neither begins nor ends with a blank
 pub record IsTrimmed (text : List ℕ) : Type 0 where
@@ -46,7 +38,7 @@ pub record IsSetting (line name text : List ℕ) : Type 0 where
       ++ (name ++ (after_name ++ (codes "=" ++ (before_text ++ (text ++ after_text)))))
   pub blanks : AreBlanks before_name × AreBlanks after_name
       × AreBlanks before_text × AreBlanks after_text
-  pub name_fits : IsAttributeName name
+  pub name_fits : is_name name ≡ true
   pub text_fits : IsTrimmed text
 
 -- the name is there, or may be one more

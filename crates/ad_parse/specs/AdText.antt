@@ -5,7 +5,7 @@ use Rattle.std.specs.List.{prefix_len, suffix_len, slice_split}
 use Rattle.ad_tree.specs.declared.ad.TheConstants.{MAX_ATTRIBUTES}
 use Rattle.ad_tree.specs.Tree.{Tree}
 use Rattle.ad_tree.specs.Ad.{Attributes, lookup, with_attribute}
-use Rattle.ad_token.specs.Names.{name_length, leading_name, is_too_long, word_of}
+use Rattle.ad_token.specs.Names.{name_length, leading_name, is_name}
 use Rattle.ad_token.specs.Lexing.{is_blank}
 use Rattle.ad_parse.specs.declared.error.ParseError.{ParseError}
 use Rattle.ad_parse.specs.declared.error.AdError.{AdError}
@@ -33,15 +33,10 @@ trimmed_text bs = trimmed_end (past_blanks bs)
 abbrev pub is_skipped : List ℕ → Bool
 is_skipped line = (slice_index line 0 == code "#") || nat_eq (length (past_blanks line)) 0
 
--- a name that an attribute may have
-abbrev pub is_attribute_name : List ℕ → Bool
-is_attribute_name name =
-    not (nat_eq (length name) 0) && (not (is_too_long name) && not (is_some (word_of name)))
-
 -- the name and the text of the expression, where `=` stands between them
 abbrev pub around_sign : List ℕ → List ℕ → Option (List ℕ × List ℕ)
 around_sign name after =
-    if is_attribute_name name && (slice_index after 0 == code "=")
+    if is_name name && (slice_index after 0 == code "=")
     then Some (name, trimmed_text (drop 1 after))
     else None
 

@@ -9,11 +9,11 @@ ghost use Rattle.ad_token.specs.Lexing.{is_blank};
 ghost use Rattle.ad_parse.specs.declared.error.AdError.{AdError};
 ghost use Rattle.ad_parse.specs.ExprText.{expression_at};
 ghost use Rattle.ad_parse.specs.AdLines.{IsAdText, IsAdRefused};
-ghost use Rattle.ad_parse.specs.AdText.{GivesAd, ad_at, with_line, with_expression, unless_refused, at_line, is_skipped, is_attribute_name, setting, setting_from, around_sign, past_blanks, trimmed_end, trimmed_text};
+ghost use Rattle.ad_parse.specs.AdText.{GivesAd, ad_at, with_line, with_expression, unless_refused, at_line, is_skipped, setting, setting_from, around_sign, past_blanks, trimmed_end, trimmed_text};
 
 use crate::error::{AdError, ParseError};
 use crate::expression::read_text;
-use ad_token::{MAX_NAME, is_blank, name_length, word};
+use ad_token::{is_blank, is_name, name_length};
 use ad_tree::{Ad, Expr, SetError};
 use std::alloc::Global;
 
@@ -134,17 +134,10 @@ fn setting_from(text: &str) -> Option<(&str, &str)>
 fn around_sign<'a>(name: &'a str, after: &'a str) -> Option<(&'a str, &'a str)>
     ensures { option_map (λ s. (s.0.now, s.1.now)) result ≡ around_sign name.now after.now }
 {
-    if !is_attribute_name(name) || !after.starts_with('=') {
+    if !is_name(name) || !after.starts_with('=') {
         return None;
     }
     Some((name, trimmed_text(&after[1..])))
-}
-
-// Whether an attribute may have this name.
-fn is_attribute_name(name: &str) -> bool
-    ensures { result ≡ is_attribute_name name.now }
-{
-    !name.is_empty() && name.len() <= MAX_NAME && word(name).is_none()
 }
 
 fn trimmed_text(text: &str) -> &str

@@ -91,7 +91,7 @@ wrote_held old between new rest c d e quote backslash =
 abbrev pub IsQuote : List ℕ → ℕ → Type 0
 IsQuote bs n = (n < length bs) × (get_or bs n 0 ≡ 34)
 
-one_less : (o : Option ℕ) (n : ℕ) → option_map (λ m. m + 1) o ≡ Some n → (m : ℕ) × (o ≡ Some m) × (n ≡ m + 1)
+pub one_less : (o : Option ℕ) (n : ℕ) → option_map (λ m. m + 1) o ≡ Some n → (m : ℕ) × (o ≡ Some m) × (n ≡ m + 1)
 one_less None n e = cc
 one_less (Some m) n e = (m, refl, cc)
 

@@ -10,15 +10,15 @@ use Rattle.ad_token.specs.declared.token.Bracket.TheVariants.{Round, Curly}
 use Rattle.ad_token.specs.declared.token.Token.{Token}
 use Rattle.ad_token.specs.declared.token.Token.TheVariants as token
 use Rattle.ad_token.specs.declared.token.Placed.{Placed}
-use Rattle.ad_token.specs.Names.{is_name_byte}
+use Rattle.ad_token.specs.Names.{is_name_byte, is_name}
 use Rattle.ad_token.specs.Marks.{mark_of_three, mark_of_two, mark_of_one, longest, mark_token}
 use Rattle.ad_token.specs.Lexing.{is_blank, ends_the_tokens, token_at, token_and_rest, lex_from, tokens_from}
-use Rattle.ad_token.specs.Canonical.{operator_text, scope_text, token_text, is_name, is_numeral, is_proper, ends_before, token_of, kinds_of, joined_text, joined_tokens, are_apart}
+use Rattle.ad_token.specs.Canonical.{operator_text, scope_text, token_text, is_numeral, is_proper, ends_before, token_of, kinds_of, joined_text, joined_tokens, are_apart}
 use Rattle.ad_token.proofs.Turns.{tokens_blank, tokens_token, tokens_end}
 use Rattle.ad_token.proofs.Pieces.{both, neither, not_true, word_at, bare_at, scope_prefix_at, my_prefix, target_prefix, my_no_word, target_no_word, true_word, false_word, undefined_word, error_word, integer_at, string_at}
 
 -- marks that a second byte would make longer
-turned : (k b : ℕ) → eqb b k ≡ false → nat_eq k b ≡ false
+pub turned : (k b : ℕ) → eqb b k ≡ false → nat_eq k b ≡ false
 turned k b h = by (nat_eq k b) refl
   where
     by : (t : Bool) → nat_eq k b ≡ t → t ≡ false

@@ -5,3 +5,7 @@ pub mod Turns
 pub mod Pieces
 pub mod Joined
 pub mod Proper
+pub mod Exponents
+pub mod Written
+pub mod Longest
+pub mod Scoped

@@ -15,11 +15,11 @@ use Rattle.ad_tree.specs.declared.operator.Scope.{Scope}
 use Rattle.ad_tree.specs.declared.operator.Scope.TheVariants.{Bare, My, Target}
 use Rattle.ad_token.specs.declared.token.Token.{Token}
 use Rattle.ad_token.specs.declared.token.Token.TheVariants as token
-use Rattle.ad_token.specs.Names.{is_letter, is_name_byte, name_length, leading_name, is_too_long, word_of, scope_of_prefix, unless_word, name_after_dot, bare_name, scope_prefix_token, perhaps_scope_prefix, perhaps_word, token_of_name, name_token}
+use Rattle.ad_token.specs.Names.{is_letter, is_name_byte, name_length, leading_name, is_too_long, word_of, scope_of_prefix, unless_word, name_after_dot, bare_name, scope_prefix_token, perhaps_scope_prefix, perhaps_word, token_of_name, name_token, is_name}
 use Rattle.ad_token.specs.Numbers.{digits_length, fraction_length, signed_length, exponent_with, exponent_length, tail_length, number_token, numeral_token, integer_token}
 use Rattle.ad_token.specs.Strings.{closing_quote, unescape_text, string_to, string_token}
 use Rattle.ad_token.specs.Lexing.{token_at}
-use Rattle.ad_token.specs.Canonical.{is_name, is_line}
+use Rattle.ad_token.specs.Canonical.{is_line}
 use Rattle.ad_token.proofs.Prefixes.{numeral_model}
 use Rattle.ad_token.proofs.Ends.{by_tests}
 
@@ -36,12 +36,12 @@ pub not_true : (b : Bool) → not b ≡ true → b ≡ false
 not_true true h = cc
 not_true false h = refl
 
-or_left : (a b : Bool) → a ≡ true → a || b ≡ true
+pub or_left : (a b : Bool) → a ≡ true → a || b ≡ true
 or_left true b h = refl
 or_left false b h = cc
 
 -- a run of bytes that pass, up to one that doesn't
-run_append : (p : ℕ → Bool) (xs ys : List ℕ) → list_all p xs ≡ true → p (get_or ys 0 0) ≡ false → prefix_len p (xs ++ ys) ≡ length xs
+pub run_append : (p : ℕ → Bool) (xs ys : List ℕ) → list_all p xs ≡ true → p (get_or ys 0 0) ≡ false → prefix_len p (xs ++ ys) ≡ length xs
 run_append p [] [] a s = refl
 run_append p [] (y ∷ ys) a s = ap (λ c. cond c (1 + prefix_len p ys) 0) s
 run_append p (x ∷ xs) ys a s =
@@ -50,13 +50,13 @@ run_append p (x ∷ xs) ys a s =
     ap (λ c. cond c (1 + prefix_len p (xs ++ ys)) 0) h.0 ∙ n
 
 -- names
-record NameParts (x : List ℕ) : Type 0 where
-  letter : is_letter (get_or x 0 0) ≡ true
-  bytes : list_all is_name_byte x ≡ true
-  short : is_too_long x ≡ false
-  no_word : is_some (word_of x) ≡ false
+pub record NameParts (x : List ℕ) : Type 0 where
+  pub letter : is_letter (get_or x 0 0) ≡ true
+  pub bytes : list_all is_name_byte x ≡ true
+  pub short : is_too_long x ≡ false
+  pub no_word : is_some (word_of x) ≡ false
 
-name_parts_from : (x : List ℕ) → is_name x ≡ true → NameParts x
+pub name_parts_from : (x : List ℕ) → is_name x ≡ true → NameParts x
 unfolding is_name
 name_parts_from x h =
     let a = both (is_letter (get_or x 0 0)) _ h in
@@ -73,12 +73,12 @@ first_append [] bs h = cc
 first_append (b ∷ x) bs h = h
 
 -- a name's bytes at the start of a text, and what follows
-record Leading (x bs : List ℕ) : Type 0 where
-  letter : is_letter (get_or (x ++ bs) 0 0) ≡ true
-  is : leading_name (x ++ bs) ≡ x
-  after : drop (name_length (x ++ bs)) (x ++ bs) ≡ bs
+pub record Leading (x bs : List ℕ) : Type 0 where
+  pub letter : is_letter (get_or (x ++ bs) 0 0) ≡ true
+  pub is : leading_name (x ++ bs) ≡ x
+  pub after : drop (name_length (x ++ bs)) (x ++ bs) ≡ bs
 
-leading_from : (x bs : List ℕ) → is_letter (get_or x 0 0) ≡ true → list_all is_name_byte x ≡ true → is_name_byte (get_or bs 0 0) ≡ false → Leading x bs
+pub leading_from : (x bs : List ℕ) → is_letter (get_or x 0 0) ≡ true → list_all is_name_byte x ≡ true → is_name_byte (get_or bs 0 0) ≡ false → Leading x bs
 leading_from x bs letter bytes stop =
     let first = first_append x bs letter in
     let n : name_length (x ++ bs) ≡ length x = ap (λ c. cond c (prefix_len is_name_byte (x ++ bs)) 0) first ∙ run_append is_name_byte x bs bytes stop in
@@ -92,7 +92,7 @@ at_letter : (bs : List ℕ) → is_letter (get_or bs 0 0) ≡ true → token_at 
 unfolding token_at
 at_letter bs h = ap (λ l. by_tests bs l (is_ascii_digit (get_or bs 0 0)) (eqb (get_or bs 0 0) 34) (eqb (get_or bs 0 0) 46)) h
 
-name_token_is : (x bs : List ℕ) → Leading x bs → token_at (x ++ bs) ≡ token_of_name x bs
+pub name_token_is : (x bs : List ℕ) → Leading x bs → token_at (x ++ bs) ≡ token_of_name x bs
 unfolding name_token
 name_token_is x bs f = at_letter (x ++ bs) f.letter ∙ (λ i. token_of_name (f.is i) (f.after i))
 
@@ -103,11 +103,11 @@ word_at x bs w letter bytes short is stop =
     ∙ ap (λ c. cond c (token.Bad, length x) (perhaps_word (word_of x) x bs)) short
     ∙ ap (λ o. perhaps_word o x bs) is
 
-no_dot : (bs : List ℕ) → eqb (get_or bs 0 0) 46 ≡ false → name_after_dot bs ≡ []
+pub no_dot : (bs : List ℕ) → eqb (get_or bs 0 0) 46 ≡ false → name_after_dot bs ≡ []
 unfolding name_after_dot
 no_dot bs h = ap (λ c. cond c (unless_word (leading_name (drop 1 bs))) []) h
 
-no_name : (s : Scope) (x : List ℕ) → scope_prefix_token s x [] ≡ (bare_name x, length x)
+pub no_name : (s : Scope) (x : List ℕ) → scope_prefix_token s x [] ≡ (bare_name x, length x)
 unfolding scope_prefix_token
 no_name s x = refl
 
@@ -178,7 +178,7 @@ unfolding word_of
 error_word = refl
 
 -- integers
-digits_all : (ds : List ℕ) → all_ascii_digits ds ≡ true → list_all is_ascii_digit ds ≡ true
+pub digits_all : (ds : List ℕ) → all_ascii_digits ds ≡ true → list_all is_ascii_digit ds ≡ true
 digits_all [] h = refl
 digits_all (d ∷ ds) h = let p = both (is_ascii_digit d) (all_ascii_digits ds) h in ap (λ c. c && list_all is_ascii_digit ds) p.0 ∙ digits_all ds p.1
 
@@ -214,7 +214,7 @@ decimals_tail fs bs digits stop =
     ∙ ap (λ k. (1 + length fs) + k) (no_exponent bs stop)
     ∙ omega arith
 
-at_digit : (bs : List ℕ) → is_ascii_digit (get_or bs 0 0) ≡ true → token_at bs ≡ number_token bs
+pub at_digit : (bs : List ℕ) → is_ascii_digit (get_or bs 0 0) ≡ true → token_at bs ≡ number_token bs
 unfolding token_at
 at_digit bs h =
     let l : is_letter (get_or bs 0 0) ≡ false = no_letter (get_or bs 0 0) h in
@@ -223,7 +223,7 @@ at_digit bs h =
     no_letter : (b : ℕ) → is_ascii_digit b ≡ true → is_letter b ≡ false
     no_letter b h = grind (arith, nat_tests)
 
-first_digit : (ds bs : List ℕ) → list_all is_ascii_digit ds ≡ true → 0 < length ds → is_ascii_digit (get_or (ds ++ bs) 0 0) ≡ true
+pub first_digit : (ds bs : List ℕ) → list_all is_ascii_digit ds ≡ true → 0 < length ds → is_ascii_digit (get_or (ds ++ bs) 0 0) ≡ true
 first_digit [] bs h some = absurd (omega arith)
 first_digit (d ∷ ds) bs h some = (both (is_ascii_digit d) (list_all is_ascii_digit ds) h).0
 
@@ -268,12 +268,12 @@ integer_at n bs small stop dot =
     ∙ ap (λ c. (cond c (token.Int (pos n)) token.Range, length (decimal n))) (lt-ltb n (2 ^ 63) small)
 
 -- strings
-closing_step : (escaped : Bool) (b : ℕ) (bs : List ℕ) → eqb b 10 ≡ false → (eqb b 34) && not escaped ≡ false → closing_quote escaped (b ∷ bs) ≡ option_map (λ n. n + 1) (closing_quote ((eqb b 92) && not escaped) bs)
+pub closing_step : (escaped : Bool) (b : ℕ) (bs : List ℕ) → eqb b 10 ≡ false → (eqb b 34) && not escaped ≡ false → closing_quote escaped (b ∷ bs) ≡ option_map (λ n. n + 1) (closing_quote ((eqb b 92) && not escaped) bs)
 closing_step escaped b bs line quote =
     ap (λ c. cond c None (cond ((eqb b 34) && not escaped) (Some 0) (option_map (λ n. n + 1) (closing_quote ((eqb b 92) && not escaped) bs)))) line
     ∙ ap (λ c. cond c (Some 0) (option_map (λ n. n + 1) (closing_quote ((eqb b 92) && not escaped) bs))) quote
 
-and_false : (b : Bool) → b && false ≡ false
+pub and_false : (b : Bool) → b && false ≡ false
 and_false true = refl
 and_false false = refl
 
@@ -316,7 +316,7 @@ unescape_text_escape_text (b ∷ s) = by (eqb b 34) (eqb b 92) refl refl (unesca
     by false true e f rest = held ((λ i. e i || f i)) rest
     by false false e f rest = ap (λ c. cond c (unescape_text true (flat_map escape_text s)) (b ∷ unescape_text false (flat_map escape_text s))) f ∙ ap (λ l. b ∷ l) rest
 
-at_quote : (bs : List ℕ) → token_at (34 ∷ bs) ≡ string_to (closing_quote false bs) bs
+pub at_quote : (bs : List ℕ) → token_at (34 ∷ bs) ≡ string_to (closing_quote false bs) bs
 unfolding token_at string_token
 at_quote bs = refl
 

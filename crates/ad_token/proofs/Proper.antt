@@ -13,12 +13,12 @@ use Rattle.ad_token.specs.declared.token.Bracket.TheVariants.{Round, Curly}
 use Rattle.ad_token.specs.declared.token.Token.{Token}
 use Rattle.ad_token.specs.declared.token.Token.TheVariants as token
 use Rattle.ad_token.specs.declared.token.Placed.{Placed}
-use Rattle.ad_token.specs.Names.{is_letter, is_name_byte, name_length, leading_name, is_too_long, word_of, scope_of_prefix, name_after_dot, bare_name, scope_prefix_token, perhaps_scope_prefix, perhaps_word, name_token}
+use Rattle.ad_token.specs.Names.{is_letter, is_name_byte, name_length, leading_name, is_too_long, word_of, scope_of_prefix, name_after_dot, bare_name, scope_prefix_token, perhaps_scope_prefix, perhaps_word, name_token, is_name}
 use Rattle.ad_token.specs.Numbers.{digits_length, tail_length, number_token, point_token, numeral_token, is_positive_digit}
 use Rattle.ad_token.specs.Strings.{is_escapable, closing_quote, unescape_text, string_to, string_token}
 use Rattle.ad_token.specs.Marks.{mark_of_three, mark_of_two, mark_of_one, longest, mark_token}
 use Rattle.ad_token.specs.Lexing.{is_blank, ends_the_tokens, token_at, lex_from, tokens_of}
-use Rattle.ad_token.specs.Canonical.{is_name, is_line, is_proper, is_fit, token_of}
+use Rattle.ad_token.specs.Canonical.{is_line, is_proper, is_fit, token_of}
 use Rattle.ad_token.proofs.Ends.{by_tests, name_some}
 use Rattle.ad_token.proofs.Pieces.{both}
 

@@ -12,7 +12,7 @@ use Rattle.ad_token.specs.declared.token.Bracket.TheVariants.{Round, Curly}
 use Rattle.ad_token.specs.declared.token.Token.{Token}
 use Rattle.ad_token.specs.declared.token.Token.TheVariants as token
 use Rattle.ad_token.specs.declared.token.Placed.{Placed}
-use Rattle.ad_token.specs.Names.{is_letter, is_name_byte, is_too_long, word_of, scope_of_prefix}
+use Rattle.ad_token.specs.Names.{is_name_byte, is_name, scope_of_prefix}
 use Rattle.ad_token.specs.Lexing.{ends_the_tokens, tokens_of}
 
 abbrev pub operator_text : BinOp → List ℕ
@@ -57,12 +57,6 @@ token_text (token.Close Round) = codes ")"
 token_text (token.Close Curly) = codes "}"
 token_text token.Comma = codes ","
 token_text _ = []
-
--- a name that is no word
-unfoldable pub is_name : List ℕ → Bool
-is_name x =
-    is_letter (slice_index x 0)
-    && (list_all is_name_byte x && (not (is_too_long x) && not (is_some (word_of x))))
 
 -- a text on one line
 unfoldable pub is_line : List ℕ → Bool

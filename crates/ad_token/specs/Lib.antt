@@ -4,3 +4,4 @@ pub mod Strings
 pub mod Marks
 pub mod Lexing
 pub mod Canonical
+pub mod LongestMark

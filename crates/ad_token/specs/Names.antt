@@ -1,9 +1,9 @@
 -- Names, the words that are none, and the prefixes before names (HTCondor manual,
 -- "ClassAd syntax").
 use Rattle.ad_value.specs.Bytes.{code}
-use Rattle.std.specs.Prelude.{ℕ, ◌+◌, ◌==◌, ◌||◌, Bool, List, [], ◌∷◌, length, take, drop, codes, nat_lt, slice_index, Option, Some, None, is_some, if◌then◌else◌}
+use Rattle.std.specs.Prelude.{ℕ, ◌+◌, ◌≡◌, ◌==◌, ◌||◌, ◌&&◌, not, Bool, false, List, [], ◌∷◌, ◌++◌, length, take, drop, codes, nat_lt, slice_index, Option, Some, None, is_some, if◌then◌else◌}
 use Rattle.std.specs.Char.{is_ascii_alphabetic, is_ascii_digit}
-use Rattle.std.specs.List.{prefix_len}
+use Rattle.std.specs.List.{prefix_len, list_all}
 use Rattle.ad_value.specs.Names.{same_name}
 use Rattle.ad_tree.specs.declared.operator.BinOp.TheVariants as bin
 use Rattle.ad_tree.specs.declared.operator.Scope.{Scope}
@@ -40,6 +40,12 @@ word_of name =
     else (if same_name name (codes "ISNT") then Some (token.Op bin.NotSame)
     else None)))))
 
+-- a name that is no word
+unfoldable pub is_name : List ℕ → Bool
+is_name x =
+    is_letter (slice_index x 0)
+    && (list_all is_name_byte x && (not (is_too_long x) && not (is_some (word_of x))))
+
 -- the prefixes, without case
 unfoldable pub scope_of_prefix : List ℕ → Option Scope
 scope_of_prefix name =
@@ -57,6 +63,15 @@ unfoldable pub name_after_dot : List ℕ → List ℕ
 name_after_dot bs =
     if slice_index bs 0 == code "." then unless_word (leading_name (drop 1 bs))
     else []
+
+-- What follows where no name stands after a dot: no dot, one with no letter after it, or one with a
+-- word after it.
+pub data NoNameFollows : List ℕ → Type 0 where
+  no_dot : {bs : List ℕ} → (slice_index bs 0 == code ".") ≡ false → NoNameFollows bs
+  no_letter : {bs : List ℕ} → is_letter (slice_index bs 0) ≡ false → NoNameFollows (code "." ∷ bs)
+  a_word : (x bs : List ℕ) {w : Token}
+      → word_of x ≡ Some w → is_name_byte (slice_index bs 0) ≡ false
+      → NoNameFollows (code "." ∷ (x ++ bs))
 
 -- a name with nothing before it
 abbrev pub bare_name : List ℕ → Token

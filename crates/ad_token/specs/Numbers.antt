@@ -1,7 +1,7 @@
 -- Integers and reals (HTCondor manual, "ClassAd syntax"). A real whose fraction and exponent are
 -- zero is an integer.
 use Rattle.ad_value.specs.Bytes.{code}
-use Rattle.std.specs.Prelude.{◌≡◌, ℕ, ◌<◌, ◌+◌, ◌^◌, ◌==◌, ◌||◌, pos, Bool, true, List, [], ◌∷◌, length, take, drop, nat_lt, if◌then◌else◌}
+use Rattle.std.specs.Prelude.{◌≡◌, ◌⊎◌, ℕ, ◌<◌, ◌+◌, ◌^◌, ◌==◌, ◌||◌, pos, Bool, true, List, [], ◌∷◌, ◌++◌, length, take, drop, nat_lt, if◌then◌else◌}
 use Rattle.std.specs.Char.{is_ascii_digit}
 use Rattle.std.specs.Int.{is_in_range}
 use Rattle.std.specs.List.{prefix_len, list_any}
@@ -16,6 +16,22 @@ digits_length bs = prefix_len is_ascii_digit bs
 -- digits, at least one
 abbrev pub AreDigits : List ℕ → Type 0
 AreDigits ds = (all_ascii_digits ds ≡ true) × (0 < length ds)
+
+-- nothing, or a dot and perhaps digits
+pub data IsFraction : List ℕ → Type 0 where
+  none : IsFraction []
+  dotted : {ds : List ℕ} → all_ascii_digits ds ≡ true → IsFraction (code "." ∷ ds)
+
+pub data IsSign : List ℕ → Type 0 where
+  no_sign : IsSign []
+  plus : IsSign (code "+" ∷ [])
+  minus : IsSign (code "-" ∷ [])
+
+-- `e` or `E`, perhaps a sign, and digits
+pub data IsExponent : List ℕ → Type 0 where
+  exponent : (b : ℕ) (sign ds : List ℕ)
+      → (b ≡ code "e") ⊎ (b ≡ code "E") → IsSign sign → AreDigits ds
+      → IsExponent (b ∷ (sign ++ ds))
 
 -- a dot, and perhaps digits
 unfoldable pub fraction_length : List ℕ → ℕ

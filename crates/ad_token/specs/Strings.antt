@@ -8,6 +8,24 @@ use Rattle.ad_token.specs.declared.token.Token.TheVariants as token
 abbrev pub is_escapable : ℕ → Bool
 is_escapable b = (b == code "\"") || (b == code "\\")
 
+-- a byte that stands for itself in a string, with a backslash before it or none
+abbrev pub is_plain_byte : ℕ → Bool
+is_plain_byte b = not (is_escapable b) && not (b == code "\n")
+
+-- What is written between the quotes, piece by piece, and what it says: a plain byte stands for
+-- itself, a quote or a backslash after a backslash for itself alone, and any other backslash for
+-- itself too.
+pub data StringSays : List ℕ → List ℕ → Type 0 where
+  nothing : StringSays [] []
+  plain : {b : ℕ} {written said : List ℕ}
+      → is_plain_byte b ≡ true → StringSays written said → StringSays (b ∷ written) (b ∷ said)
+  escape : {b : ℕ} {written said : List ℕ}
+      → is_escapable b ≡ true → StringSays written said
+      → StringSays (code "\\" ∷ b ∷ written) (b ∷ said)
+  backslash : {b : ℕ} {written said : List ℕ}
+      → is_plain_byte b ≡ true → StringSays written said
+      → StringSays (code "\\" ∷ b ∷ written) (code "\\" ∷ b ∷ said)
+
 -- How many bytes stand before the closing quote, if it comes on this line. A quote after a
 -- backslash that begins an escape closes nothing; the first argument says whether one stands
 -- before.

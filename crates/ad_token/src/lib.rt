@@ -10,5 +10,5 @@ mod strings;
 mod token;
 
 pub use lexer::{is_blank, tokens};
-pub use names::{MAX_NAME, name_length, word};
+pub use names::{MAX_NAME, is_name, name_length};
 pub use token::{Bracket, Placed, Token};

@@ -1,6 +1,6 @@
-ghost use Rattle.std.specs.Prelude.{◌≡◌, ◌≤◌, IfOk, length, IsCharBoundary};
-ghost use Rattle.std.specs.List.{prefix_len};
-ghost use Rattle.ad_token.specs.Names.{is_letter, is_name_byte, name_length, leading_name, is_too_long, word_of, scope_of_prefix, unless_word, name_after_dot, bare_name, scope_prefix_token, name_token};
+ghost use Rattle.std.specs.Prelude.{◌≡◌, ◌≤◌, IfOk, length, slice_index, is_some, IsCharBoundary};
+ghost use Rattle.std.specs.List.{prefix_len, list_all};
+ghost use Rattle.ad_token.specs.Names.{is_letter, is_name_byte, name_length, leading_name, is_too_long, word_of, scope_of_prefix, unless_word, name_after_dot, bare_name, scope_prefix_token, name_token, is_name};
 
 use crate::token::Token;
 use ad_tree::{BinOp, Scope};
@@ -57,9 +57,9 @@ fn is_too_long(name: &str) -> bool
     name.len() > MAX_NAME
 }
 
-/// The token of a word that is no name, without ASCII case. Computes in O(1).
+// The token of a word that is no name, without ASCII case.
 #[tactic(auto, unfolding(crate::specs::Names::word_of))]
-pub fn word(name: &str) -> Option<Token>
+fn word(name: &str) -> Option<Token>
     ensures { result ≡ word_of name.now }
 {
     if name.eq_ignore_ascii_case("TRUE") {
@@ -77,6 +77,40 @@ pub fn word(name: &str) -> Option<Token>
     } else {
         None
     }
+}
+
+/// Whether a text is a name: a letter or `_`, then letters, digits and `_`, not too long, and no
+/// word. Computes in O(bytes).
+#[tactic(auto, unfolding(crate::specs::Names::is_name))]
+pub fn is_name(text: &str) -> bool
+    ensures { result ≡ is_name text.now }
+{
+    let bytes = text.as_bytes();
+    if !starts_with_letter(bytes) || !are_name_bytes(bytes) {
+        return false;
+    }
+    !is_too_long(text) && !is_word(text)
+}
+
+fn starts_with_letter(bytes: &[u8]) -> bool
+    ensures { result ≡ is_letter (slice_index bytes.now 0) }
+{
+    match bytes.first() {
+        Some(b) => is_letter(*b),
+        None => false,
+    }
+}
+
+fn are_name_bytes(bytes: &[u8]) -> bool
+    ensures { result ≡ list_all is_name_byte bytes.now }
+{
+    bytes.iter().all(|b| is_name_byte(*b))
+}
+
+fn is_word(name: &str) -> bool
+    ensures { result ≡ is_some (word_of name.now) }
+{
+    word(name).is_some()
 }
 
 // The scope that a name stands for before a dot.
