@@ -24,3 +24,4 @@ pub mod AdTexts
 pub mod AdRefusals
 pub mod Literals
 pub mod Shortest
+pub mod Sizes

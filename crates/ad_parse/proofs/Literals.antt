@@ -1,5 +1,5 @@
 -- The canonical text of a value's tree is the value's literal, and within the limits it is read as that tree.
-use Rattle.std.proofs.Common.{◌≡◌, ◌≢◌, ℕ, zero, suc, ℤ, pos, negsuc, ◌+◌, ◌-◌, ◌^◌, ◌<◌, ◌≤◌, max, ◌==◌, nat_lt, Bool, true, false, cond, eqb, List, [], ◌∷◌, ◌++◌, length, codes, refl, sym, ap, ◌∙◌, subst, arith}
+use Rattle.std.proofs.Common.{◌≡◌, ◌≢◌, ℕ, zero, suc, ℤ, pos, negsuc, ◌+◌, ◌^◌, ◌<◌, ◌≤◌, ◌==◌, Bool, true, false, cond, List, [], ◌∷◌, ◌++◌, length, codes, refl, sym, ap, ◌∙◌, subst, arith}
 use Rattle.std.specs.Fmt.{digits, decimal, signed_decimal}
 use Rattle.std.specs.Ordering.{int_eq}
 use Rattle.std.proofs.lemmas.Bool.{eqb-true, eqb-false, lt-ltb}
@@ -7,21 +7,18 @@ use Rattle.std.proofs.lemmas.Bool.Decides.{Decides-int_eq}
 use Rattle.ad_value.specs.Content.{Content, Contents, undefined, error, truth, integer, text, no_contents, and_content}
 use Rattle.ad_value.specs.Content as value
 use Rattle.ad_value.specs.Literal.{least_integer, integer_text, literal_text, items_text, more_items_text}
-use Rattle.ad_tree.specs.declared.operator.UnOp.TheVariants.{Minus}
-use Rattle.ad_tree.specs.declared.operator.BinOp.TheVariants as bin
-use Rattle.ad_tree.specs.Tree.{Tree, Trees, literal, unary, chain, items, no_trees, and_tree, no_rests, and_rest}
+use Rattle.ad_tree.specs.Tree.{Tree, literal, items}
 use Rattle.ad_tree.specs.ValueTree.{minus_tree, least_tree, integer_tree, value_tree, value_trees}
 use Rattle.ad_token.specs.declared.token.Bracket.TheVariants.{Curly}
 use Rattle.ad_token.specs.declared.token.Token.TheVariants as token
 use Rattle.ad_token.specs.declared.token.Placed.{Placed}
 use Rattle.ad_token.specs.Lexing.{tokens_of}
-use Rattle.ad_token.specs.Canonical.{is_line, is_numeral, is_proper, tokens_in}
-use Rattle.ad_parse.specs.Grammar.{IsCond, alone, IsLevel, operand, single, chained, IsRests, ended, more, IsOperand, prefixed, literally, listed, IsItems, none, some, IsMore, last, another, IsText}
+use Rattle.ad_parse.specs.Grammar.{IsCond, IsLevel, operand, single, chained, ended, more, IsOperand, prefixed, literally, listed, IsItems, none, some, IsMore, last, another, IsText}
 use Rattle.ad_parse.specs.Canon.{canon, canon_items, canon_more}
 use Rattle.ad_parse.specs.Spelling.{spell, spell_items, spell_more}
 use Rattle.ad_parse.specs.ExprText.{IsExprText}
 use Rattle.ad_parse.specs.ValueText.{IsShortInteger, IsPlain, ArePlain, nesting, nesting_of_items, HasReadableLiteral}
-use Rattle.ad_parse.proofs.Again.{mark, place, place-append, tokens_in-place, alone_at, lift, spelled_again}
+use Rattle.ad_parse.proofs.Again.{mark, place, place-append, alone_at, lift, spelled_again}
 use Rattle.ad_parse.proofs.Pieces.{Proper, ProperTrees}
 use Rattle.ad_parse.proofs.Reread.{canon_spells}
 

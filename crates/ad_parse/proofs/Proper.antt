@@ -12,7 +12,7 @@ use Rattle.ad_token.specs.Lexing.{tokens_of}
 use Rattle.ad_token.specs.Canonical.{is_proper, is_fit, token_of}
 use Rattle.ad_token.proofs.Proper.{tokens_fit}
 use Rattle.ad_parse.specs.Operators.{literal_of}
-use Rattle.ad_parse.specs.Grammar.{IsCond, alone, chosen, otherwise, IsLevel, operand, single, chained, IsRests, ended, more, IsOperand, prefixed, literally, named, called, bracketed, listed, IsItems, none, some, IsMore, last, another, IsText}
+use Rattle.ad_parse.specs.Grammar.{IsCond, alone, chosen, otherwise, IsLevel, operand, single, chained, IsRests, ended, more, IsOperand, prefixed, literally, named, called, bracketed, listed, IsItems, none, some, IsMore, last, another}
 use Rattle.ad_parse.specs.Spelling.{literal_token}
 use Rattle.ad_parse.proofs.Pieces.{Proper, ProperRests, ProperTrees}
 

@@ -1,25 +1,21 @@
 -- No text that spells a tree has fewer tokens than its canonical text.
-use Rattle.std.proofs.Common.{◌≡◌, ℕ, suc, ◌+◌, ◌-◌, ◌≤◌, Bool, true, false, cond, List, [], ◌∷◌, ◌++◌, length, map, refl, sym, ap, ◌∙◌, subst, arith}
+use Rattle.std.proofs.Common.{◌≡◌, ℕ, ◌+◌, ◌-◌, ◌≤◌, Bool, true, false, cond, List, [], ◌∷◌, ◌++◌, length, refl, ap, arith}
 use Rattle.std.specs.Prelude.{nat_le}
-use Rattle.std.proofs.lemmas.Bool.{leb-true, le-leb}
+use Rattle.std.proofs.lemmas.Bool.{le-leb}
 use Rattle.std.proofs.lemmas.List.{length-append, length-map}
-use Rattle.ad_value.specs.Content.{Content}
-use Rattle.ad_tree.specs.declared.operator.BinOp.{BinOp}
-use Rattle.ad_tree.specs.declared.operator.BinOp.TheVariants as bin
-use Rattle.ad_tree.specs.Tree.{Tree, literal, reference, unary, chain, choice, or_else, call, items, Rests, and_rest, Trees, and_tree}
+use Rattle.ad_tree.specs.Tree.{Tree, literal, reference, unary, chain, call, items, Rests, and_rest, Trees}
 use Rattle.ad_token.specs.declared.token.Bracket.{Bracket}
-use Rattle.ad_token.specs.declared.token.Bracket.TheVariants.{Round, Curly}
+use Rattle.ad_token.specs.declared.token.Bracket.TheVariants.{Round}
 use Rattle.ad_token.specs.declared.token.Token.{Token}
 use Rattle.ad_token.specs.declared.token.Token.TheVariants as token
 use Rattle.ad_token.specs.declared.token.Placed.{Placed}
 use Rattle.ad_token.specs.Lexing.{tokens_of}
 use Rattle.ad_token.specs.Canonical.{token_of, tokens_in}
 use Rattle.ad_parse.specs.Operators.{level_of}
-use Rattle.ad_parse.specs.Grammar.{IsCond, alone, chosen, otherwise, IsLevel, operand, single, chained, IsRests, ended, more, IsOperand, prefixed, literally, named, called, bracketed, listed, IsItems, none, some, IsMore, last, another, IsText}
+use Rattle.ad_parse.specs.Grammar.{IsCond, alone, chosen, otherwise, IsLevel, operand, single, chained, IsRests, ended, more, IsOperand, prefixed, literally, named, called, bracketed, listed, IsItems, none, some, IsMore, last, another}
 use Rattle.ad_parse.specs.Canon.{looseness, canon}
 use Rattle.ad_parse.specs.Spelling.{spell_within, spell, spell_rests, spell_items, spell_more}
-use Rattle.ad_parse.specs.ExprText.{IsExprText}
-use Rattle.ad_parse.proofs.Again.{rests_op, level_small}
+use Rattle.ad_parse.proofs.Again.{rests_op}
 use Rattle.ad_parse.proofs.Reread.{canon_spells}
 use Rattle.ad_parse.proofs.Proper.{what_is_read_is_proper}
 
@@ -59,8 +55,14 @@ mutual
   short_cond : {n : ℕ} {ts us : List Placed} {e : Tree} → IsCond n ts e us → size e + length us ≤ length ts
   short_cond (alone {e = e} a) = omega (arith, short_level a 6 (omega arith), within_least 6 e)
   short_cond (chosen {t = t} {y = y} {e = e} a i b j c) =
-      omega (arith, short_level a 6 (omega arith), short_cond b, short_cond c,
-      length-append (spell_within 6 (looseness t) (spell t)) (token.Question ∷ (spell y ++ (token.Colon ∷ spell e))), length-append (spell y) (token.Colon ∷ spell e))
+      omega (
+        arith,
+        short_level a 6 (omega arith),
+        short_cond b,
+        short_cond c,
+        length-append (spell_within 6 (looseness t) (spell t)) (token.Question ∷ (spell y ++ (token.Colon ∷ spell e))),
+        length-append (spell y) (token.Colon ∷ spell e),
+      )
   short_cond (otherwise {e = e} {f = f} a i b) =
       omega (arith, short_level a 6 (omega arith), short_cond b, length-append (spell_within 6 (looseness e) (spell e)) (token.OrElse ∷ spell f))
 

@@ -10,3 +10,4 @@ pub mod Spelling
 pub mod AdText
 pub mod AdLines
 pub mod ValueText
+pub mod PrintedSize

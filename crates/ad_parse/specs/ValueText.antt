@@ -1,5 +1,5 @@
 -- The values whose literals are read as expressions.
-use Rattle.std.specs.Prelude.{◌≡◌, ℕ, ◌+◌, ◌^◌, ◌<◌, ◌≤◌, max, ℤ, pos, negsuc, true, List, length}
+use Rattle.std.specs.Prelude.{◌≡◌, ℕ, ◌+◌, ◌^◌, ◌<◌, ◌≤◌, max, ℤ, pos, negsuc, true, length}
 use Rattle.ad_value.specs.Content.{Content, Contents, undefined, error, truth, integer, text, items, no_contents, and_content}
 use Rattle.ad_value.specs.Literal.{literal_text}
 use Rattle.ad_token.specs.Canonical.{is_line}

@@ -54,7 +54,8 @@ pub fn canonical_texts_have_the_fewest_tokens()
 /// stands on one line and it is within the limits, it is read as that expression.
 pub fn literals_are_read()
     ensures canonical { (c : Content) → canon (value_tree c) ≡ literal_text c }
-    ensures read { (c : Content) → HasReadableLiteral c → IsExprText (literal_text c) (value_tree c) }
+    ensures read { (c : Content)
+        → HasReadableLiteral c → IsExprText (literal_text c) (value_tree c) }
 {}
 
 /// A text says an ad exactly where each of its lines is skipped, or sets an attribute for which

@@ -9,8 +9,10 @@ pub mod laws;
 mod levels;
 mod parse;
 mod print;
+mod size;
 
 pub use ad_text::parse_ad;
 pub use error::{AdError, ParseError};
 pub use expression::parse_expr;
 pub use print::print_expr;
+pub use size::printed_size;

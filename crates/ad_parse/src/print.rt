@@ -126,7 +126,7 @@ fn write_reference(text: &mut String, scope: Scope, name: &Text) -> Result<(), M
     Ok(text.push_str(name.as_str())?)
 }
 
-fn scope_text(scope: Scope) -> &'static str
+pub(crate) fn scope_text(scope: Scope) -> &'static str
     ensures { result.now ≡ scope_text scope }
 {
     match scope {
@@ -136,7 +136,7 @@ fn scope_text(scope: Scope) -> &'static str
     }
 }
 
-fn prefix_text(op: UnOp) -> &'static str
+pub(crate) fn prefix_text(op: UnOp) -> &'static str
     ensures { result.now ≡ prefix_text op }
 {
     match op {
@@ -146,7 +146,7 @@ fn prefix_text(op: UnOp) -> &'static str
     }
 }
 
-fn infix_text(op: BinOp) -> &'static str
+pub(crate) fn infix_text(op: BinOp) -> &'static str
     ensures { result.now ≡ infix_text op }
 {
     match op {

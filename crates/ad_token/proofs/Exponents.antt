@@ -40,7 +40,7 @@ module _ (bs : List ℕ) (stop : is_ascii_digit (get_or bs 0 0) ≡ false) where
   after_sign : (r ds : List ℕ) (k : ℕ) → sign_length r ≡ k → drop k r ≡ ds ++ bs → AreDigits ds → signed_length r ≡ k + length ds
   after_sign r ds k e rest digits =
       let n : digits_length (drop (sign_length r) r) ≡ length ds =
-          ap (λ m. digits_length (drop m r)) e ∙ ap (λ l. digits_length l) rest ∙ run_append is_ascii_digit ds bs (digits_all ds digits.0) stop in
+      ap (λ m. digits_length (drop m r)) e ∙ ap (λ l. digits_length l) rest ∙ run_append is_ascii_digit ds bs (digits_all ds digits.0) stop in
       (λ i. cond (ltb 0 (n i)) (e i + n i) 0) ∙ ap (λ c. cond c (k + length ds) 0) (lt-ltb 0 (length ds) digits.1)
 
   signed_is : (sign ds : List ℕ) → IsSign sign → AreDigits ds → signed_length ((sign ++ ds) ++ bs) ≡ length sign + length ds
@@ -85,7 +85,7 @@ module _ (bs : List ℕ) (stop : is_ascii_digit (get_or bs 0 0) ≡ false) where
       let f : fraction_length rest ≡ length fs = fraction_is fs (es ++ bs) fraction letter.no_digit letter.no_dot in
       let back : drop (length fs) rest ≡ es ++ bs = drop_at fs (es ++ bs) _ refl in
       let tail : tail_length rest ≡ length (fs ++ es) =
-          (λ i. f i + exponent_length (drop (f i) rest)) ∙ ap (λ l. length fs + exponent_length l) back ∙ ap (λ n. length fs + n) (exponent_is es is) ∙ sym (length-append fs es) in
+      (λ i. f i + exponent_length (drop (f i) rest)) ∙ ap (λ l. length fs + exponent_length l) back ∙ ap (λ n. length fs + n) (exponent_is es is) ∙ sym (length-append fs es) in
       let these : take (length (fs ++ es)) rest ≡ fs ++ es = ap (λ l. take (length (fs ++ es)) l) (sym (append_assoc fs es bs)) ∙ take_at (fs ++ es) bs _ refl in
       number_at ds rest digits (begins_no_digit fs (es ++ bs) fraction letter.no_digit)
       ∙ (λ i. (numeral_token ds (take (tail i) rest), length ds + tail i))

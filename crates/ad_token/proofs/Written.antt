@@ -37,9 +37,9 @@ one_more o n e = ap (λ p. option_map (λ k. k + 1) p) e ∙ ap (λ k. Some k) (
 held : (b : ℕ) (rest : List ℕ) (n : ℕ) → eqb b 10 ≡ false → closing_quote false rest ≡ Some n → closing_quote false (92 ∷ b ∷ rest) ≡ Some (suc (suc n))
 held b rest n line e =
     let inner : closing_quote true (b ∷ rest) ≡ Some (suc n) =
-        closing_step true b rest line (and_false (eqb b 34))
-        ∙ ap (λ k. option_map (λ m. m + 1) (closing_quote k rest)) (and_false (eqb b 92))
-        ∙ one_more (closing_quote false rest) n e in
+    closing_step true b rest line (and_false (eqb b 34))
+    ∙ ap (λ k. option_map (λ m. m + 1) (closing_quote k rest)) (and_false (eqb b 92))
+    ∙ one_more (closing_quote false rest) n e in
     one_more (closing_quote true (b ∷ rest)) (suc n) inner
 
 closes : (written said bs : List ℕ) → StringSays written said → closing_quote false (written ++ 34 ∷ bs) ≡ Some (length written)

@@ -102,7 +102,7 @@ pub fn strings_are_read()
         ≡ (token.Str said, length written + 2) }
     ensures unclosed { (bs : List ℕ)
         → ((written said more : List ℕ)
-          → bs ≡ written ++ code "\"" ∷ more → StringSays written said → ⊥)
+        → bs ≡ written ++ code "\"" ∷ more → StringSays written said → ⊥)
         → token_at (code "\"" ∷ bs) ≡ (token.Bad, 1) }
 {}
 
