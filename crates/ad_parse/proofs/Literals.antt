@@ -1,19 +1,20 @@
 -- The canonical text of a value's tree is the value's literal, and within the limits it is read as that tree.
-use Rattle.std.proofs.Common.{◌≡◌, ◌≢◌, ℕ, zero, suc, ℤ, pos, negsuc, ◌+◌, ◌^◌, ◌<◌, ◌≤◌, ◌==◌, Bool, true, false, cond, List, [], ◌∷◌, ◌++◌, length, codes, refl, sym, ap, ◌∙◌, subst, arith}
+use Rattle.std.proofs.Common.{◌≡◌, ◌≢◌, ℕ, zero, suc, ℤ, pos, negsuc, ◌+◌, ◌-◌, max, ◌^◌, ◌<◌, ◌≤◌, ◌==◌, Bool, true, false, cond, List, [], ◌∷◌, ◌++◌, length, codes, refl, sym, ap, ◌∙◌, subst, arith}
 use Rattle.std.specs.Fmt.{digits, decimal, signed_decimal}
 use Rattle.std.specs.Ordering.{int_eq}
-use Rattle.std.proofs.lemmas.Bool.{eqb-true, eqb-false, lt-ltb}
+use Rattle.std.proofs.lemmas.Bool.{eqb-true, eqb-false, lt-ltb, ltb-true}
 use Rattle.std.proofs.lemmas.Bool.Decides.{Decides-int_eq}
 use Rattle.ad_value.specs.Content.{Content, Contents, undefined, error, truth, integer, text, no_contents, and_content}
 use Rattle.ad_value.specs.Content as value
 use Rattle.ad_value.specs.Literal.{least_integer, integer_text, literal_text, items_text, more_items_text}
-use Rattle.ad_tree.specs.Tree.{Tree, literal, items}
+use Rattle.ad_tree.specs.Tree.{Tree, literal, reference, unary, chain, choice, or_else, call, items, Rests, no_rests, and_rest, Trees, no_trees, and_tree}
 use Rattle.ad_tree.specs.ValueTree.{minus_tree, least_tree, integer_tree, value_tree, value_trees}
+use Rattle.ad_token.specs.declared.token.Bracket.{Bracket}
 use Rattle.ad_token.specs.declared.token.Bracket.TheVariants.{Curly}
 use Rattle.ad_token.specs.declared.token.Token.TheVariants as token
 use Rattle.ad_token.specs.declared.token.Placed.{Placed}
 use Rattle.ad_token.specs.Lexing.{tokens_of}
-use Rattle.ad_parse.specs.Grammar.{IsCond, IsLevel, operand, single, chained, ended, more, IsOperand, prefixed, literally, listed, IsItems, none, some, IsMore, last, another, IsText}
+use Rattle.ad_parse.specs.Grammar.{IsCond, alone, chosen, otherwise, IsLevel, operand, single, chained, IsRests, ended, more, IsOperand, prefixed, literally, named, called, bracketed, listed, IsItems, none, some, IsMore, last, another, IsText}
 use Rattle.ad_parse.specs.Canon.{canon, canon_items, canon_more}
 use Rattle.ad_parse.specs.Spelling.{spell, spell_items, spell_more}
 use Rattle.ad_parse.specs.ExprText.{IsExprText}
@@ -21,6 +22,7 @@ use Rattle.ad_parse.specs.ValueText.{IsShortInteger, IsPlain, ArePlain, nesting,
 use Rattle.ad_parse.proofs.Again.{mark, place, place-append, alone_at, lift, spelled_again}
 use Rattle.ad_parse.proofs.Pieces.{Proper, ProperTrees}
 use Rattle.ad_parse.proofs.Reread.{canon_spells}
+use Rattle.ad_parse.proofs.Proper.{what_is_read_is_proper}
 
 -- ---- the canonical text
 
@@ -154,3 +156,107 @@ canon_says c h =
 
 pub literal_says : (c : Content) → HasReadableLiteral c → IsExprText (literal_text c) (value_tree c)
 literal_says c h = subst (λ bs. IsExprText bs (value_tree c)) (value_canon c) (canon_says c h)
+
+-- ---- what is read is within the limits
+
+integer_plain : (n : ℤ) → Proper (integer_tree n) → IsShortInteger n
+integer_plain (pos n) h = ltb-true n (2 ^ 63) h
+integer_plain (negsuc n) h = by (n == 9223372036854775807) refl h
+  where
+    by : (b : Bool) → (n == 9223372036854775807) ≡ b → Proper (cond b least_tree (minus_tree (pos (n + 1)))) → n < 2 ^ 63
+    by true is h = let same = eqb-true n 9223372036854775807 is in omega (arith, same)
+    by false is h = let less = ltb-true (n + 1) (2 ^ 63) h in omega (arith, less)
+
+mutual
+  value_plain : (c : Content) → Proper (value_tree c) → IsPlain c
+  value_plain undefined h = tt
+  value_plain error h = tt
+  value_plain (truth b) h = tt
+  value_plain (integer n) h = integer_plain n h
+  value_plain (text s) h = h
+  value_plain (value.items cs) h = items_plain cs h
+
+  items_plain : (cs : Contents) → ProperTrees (value_trees cs) → ArePlain cs
+  items_plain no_contents h = tt
+  items_plain (and_content c cs) h = (value_plain c h.0, items_plain cs h.1)
+
+-- how many brackets and operators hold the innermost operand of a tree
+abbrev mutual
+  depth : Tree → ℕ
+  depth (literal c) = 0
+  depth (reference s x) = 0
+  depth (unary op e) = 1 + depth e
+  depth (chain e rs) = max (depth e) (depth_of_rests rs)
+  depth (choice t y n) = max (depth t) (1 + max (depth y) (depth n))
+  depth (or_else e f) = max (depth e) (1 + depth f)
+  depth (call x es) = depth_of_items es
+  depth (items es) = depth_of_items es
+
+  depth_of_rests : Rests → ℕ
+  depth_of_rests no_rests = 0
+  depth_of_rests (and_rest op e rs) = max (depth e) (depth_of_rests rs)
+
+  depth_of_items : Trees → ℕ
+  depth_of_items no_trees = 0
+  depth_of_items (and_tree e es) = max (1 + depth e) (depth_of_items es)
+
+mutual
+  cond_depth : {n : ℕ} {ts us : List Placed} {e : Tree} → IsCond n ts e us → depth e < n
+  cond_depth (alone a) = level_depth a
+  cond_depth (chosen a i b j c) = omega (arith, level_depth a, cond_depth b, cond_depth c)
+  cond_depth (otherwise a i b) = omega (arith, level_depth a, cond_depth b)
+
+  level_depth : {l n : ℕ} {ts us : List Placed} {e : Tree} → IsLevel l n ts e us → depth e < n
+  level_depth (operand a) = operand_depth a
+  level_depth (single a) = level_depth a
+  level_depth (chained a b) = omega (arith, level_depth a, rests_depth b, level_depth a)
+
+  rests_depth : {l n : ℕ} {ts us : List Placed} {rs : Rests} → IsRests l n ts rs us → depth_of_rests rs ≤ n - 1
+  rests_depth ended = omega arith
+  rests_depth (more i k a b) = omega (arith, level_depth a, rests_depth b)
+
+  operand_depth : {n : ℕ} {ts us : List Placed} {e : Tree} → IsOperand n ts e us → depth e < n
+  operand_depth (prefixed i a) = omega (arith, operand_depth a)
+  operand_depth (literally i) = omega arith
+  operand_depth (named i) = omega arith
+  operand_depth (called i j a) = omega (arith, items_depth a)
+  operand_depth (bracketed i a j) = omega (arith, cond_depth a)
+  operand_depth (listed i a) = omega (arith, items_depth a)
+
+  items_depth : {b : Bracket} {n : ℕ} {ts us : List Placed} {es : Trees} → IsItems b n ts es us → depth_of_items es ≤ n
+  items_depth (none i) = omega arith
+  items_depth (some a c) = omega (arith, cond_depth a, more_depth c)
+
+  more_depth : {b : Bracket} {n : ℕ} {ts us : List Placed} {es : Trees} → IsMore b n ts es us → depth_of_items es ≤ n
+  more_depth (last i) = omega arith
+  more_depth (another i a c) = omega (arith, cond_depth a, more_depth c)
+
+integer_depth : (n : ℤ) → nesting (integer n) ≤ depth (integer_tree n)
+integer_depth (pos n) = omega arith
+integer_depth (negsuc n) = by (n == 9223372036854775807)
+  where
+    by : (b : Bool) → 1 ≤ depth (cond b least_tree (minus_tree (pos (n + 1))))
+    by true = omega arith
+    by false = omega arith
+
+mutual
+  value_depth : (c : Content) → nesting c ≤ depth (value_tree c)
+  value_depth undefined = omega arith
+  value_depth error = omega arith
+  value_depth (truth b) = omega arith
+  value_depth (integer n) = integer_depth n
+  value_depth (text s) = omega arith
+  value_depth (value.items cs) = contents_depth cs
+
+  contents_depth : (cs : Contents) → nesting_of_items cs ≤ depth_of_items (value_trees cs)
+  contents_depth no_contents = omega arith
+  contents_depth (and_content c cs) = omega (arith, value_depth c, contents_depth cs)
+
+pub says_within : (c : Content) → IsExprText (literal_text c) (value_tree c) → HasReadableLiteral c
+says_within c is =
+    let deep = cond_depth is.spelled in
+    record {
+      plain = value_plain c (what_is_read_is_proper (literal_text c) (value_tree c) is.spelled);
+      shallow = omega (arith, deep, value_depth c);
+      short = is.short;
+    }

@@ -50,12 +50,12 @@ pub fn canonical_texts_have_the_fewest_tokens()
         → IsCond n (tokens_of text) e [] → length (tokens_of (canon e)) ≤ length (tokens_of text) }
 {}
 
-/// The canonical text of a value's expression is the value's literal, and where each of its strings
-/// stands on one line and it is within the limits, it is read as that expression.
+/// The canonical text of a value's expression is the value's literal. It is read as that expression
+/// exactly where each of its strings stands on one line and it is within the limits.
 pub fn literals_are_read()
     ensures canonical { (c : Content) → canon (value_tree c) ≡ literal_text c }
     ensures read { (c : Content)
-        → HasReadableLiteral c → IsExprText (literal_text c) (value_tree c) }
+        → (IsExprText (literal_text c) (value_tree c)) ↔ HasReadableLiteral c }
 {}
 
 /// A text says an ad exactly where each of its lines is skipped, or sets an attribute for which

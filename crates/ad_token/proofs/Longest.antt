@@ -187,8 +187,8 @@ unfolding mark_token
 longest_mark bs t stands = by (mark_of_three bs) (mark_of_two bs) refl refl
   where
     by : (p q : Option Token) → mark_of_three bs ≡ p → mark_of_two bs ≡ q → IsLongestMark bs (longest p q (mark_of_one (get_or bs 0 0)))
-    by (Some x) q e f = let h = three_is bs x e in record { stands = h.stands; size = h.size; longest = λ u s. mark_size u s.mark }
-    by None (Some x) e f = let h = two_is bs x f in record { stands = h.stands; size = h.size; longest = λ u s. within_two bs (no_three bs e) u s }
+    by (Some x) q e f = let h = three_is bs x e in record { stands = h.stands; size = h.size; no_longer = λ u s. mark_size u s.mark }
+    by None (Some x) e f = let h = two_is bs x f in record { stands = h.stands; size = h.size; no_longer = λ u s. within_two bs (no_three bs e) u s }
     by None None e f =
         let no_longer = no_three bs e in
         let none = no_two bs f in
@@ -196,7 +196,7 @@ longest_mark bs t stands = by (mark_of_three bs) (mark_of_two bs) refl refl
         subst (λ x. IsLongestMark bs (x, 1)) (sym one.same) record {
           stands = stands;
           size = sym one.size;
-          longest = λ u s. let same = (one_is bs no_longer none u s).size in omega (arith, same);
+          no_longer = λ u s. let same = (one_is bs no_longer none u s).size in omega (arith, same);
         }
 
 -- ---- a mark begins no other token

@@ -29,7 +29,7 @@ pub record StandsAt (bs : List ℕ) (t : Token) : Type 0 where
 pub record IsLongestMark (bs : List ℕ) (t : Token × ℕ) : Type 0 where
   pub stands : StandsAt bs t.0
   pub size : t.1 ≡ length (token_text t.0)
-  pub longest : (u : Token) → StandsAt bs u → length (token_text u) ≤ t.1
+  pub no_longer : (u : Token) → StandsAt bs u → length (token_text u) ≤ t.1
 
 -- a byte that begins no name, no number and no string, and is no dot
 pub record BeginsNoOther (b : ℕ) : Type 0 where

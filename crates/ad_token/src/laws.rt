@@ -1,7 +1,7 @@
 //! What holds of every text, in the words of the language.
 
 ghost use Rattle.ad_value.specs.Bytes.{code};
-ghost use Rattle.std.specs.Prelude.{◌≡◌, ◌<◌, ◌+◌, ◌++◌, ◌∷◌, ◌==◌, if◌then◌else◌, ℕ, List, Option, Some, All, length, slice_index, true, false};
+ghost use Rattle.std.specs.Prelude.{◌≡◌, ◌<◌, ◌+◌, ◌++◌, [], ◌∷◌, ◌==◌, if◌then◌else◌, ℕ, List, Option, Some, All, length, slice_index, true, false};
 ghost use Rattle.std.specs.Char.{is_ascii_digit};
 ghost use Rattle.std.specs.List.{list_all, list_any};
 ghost use Rattle.std.specs.Str.{all_ascii_digits};
@@ -87,6 +87,16 @@ pub fn numbers_are_read()
         ≡ (
           if list_any is_positive_digit (fs ++ es) then token.Real else integer_token ds,
           length ds + length (fs ++ es),
+        ) }
+    ensures no_exponents { (ds fs bs : List ℕ)
+        → AreDigits ds → IsFraction fs
+        → is_ascii_digit (slice_index bs 0) ≡ false
+        → (fs ≡ [] → slice_index bs 0 == code "." ≡ false)
+        → ((es more : List ℕ) → bs ≡ es ++ more → IsExponent es → ⊥)
+        → token_at (ds ++ (fs ++ bs))
+        ≡ (
+          if list_any is_positive_digit fs then token.Real else integer_token ds,
+          length ds + length fs,
         ) }
     ensures points { (bs : List ℕ)
         → token_at (code "." ∷ bs)
