@@ -1,2 +1,3 @@
 mod ContentLemmas
+mod FoldLemmas
 pub mod LiteralLemmas

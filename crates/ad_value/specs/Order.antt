@@ -25,8 +25,12 @@ as_order ordering.Less = order.Less
 as_order ordering.Equal = order.Equal
 as_order ordering.Greater = order.Greater
 
+-- texts stand as the bytes of their foldings
+abbrev pub folded_order : List ℕ → List ℕ → Ordering
+folded_order a b = slice_cmp nat_cmp (folded_text a) (folded_text b)
+
 abbrev pub text_order : List ℕ → List ℕ → Order
-text_order a b = as_order (slice_cmp nat_cmp (folded_text a) (folded_text b))
+text_order a b = as_order (folded_order a b)
 
 -- a truth value counts 1 or 0
 abbrev pub number_of : Bool → ℤ

@@ -7,13 +7,15 @@ mod memory;
 mod order;
 mod seq;
 mod text;
+mod truth;
 mod user_number;
 mod value;
 
 pub use literal::write_item_separator;
 pub use memory::Memory;
-pub use order::{Order, fold_eq};
+pub use order::{Order, fold_cmp, fold_eq};
 pub use seq::{Copied, Seq};
 pub use text::{Text, TextList};
+pub use truth::Truth;
 pub use user_number::{UserNumber, UserNumberList};
 pub use value::{Value, ValueList};

@@ -1,6 +1,9 @@
-ghost use Rattle.std.specs.Prelude.{◌≡◌, ◌↔◌, IfOk, IsTrue};
+ghost use Rattle.std.specs.Prelude.{◌≡◌, ◌↔◌, IfOk, IsOk, IsTrue, IsAscii};
+ghost use Rattle.std.specs.Ordering.{nat_cmp};
+ghost use Rattle.std.specs.Cmp.Lexicographic.{slice_cmp};
 ghost use Rattle.ad_value.specs.Content.{content};
-ghost use Rattle.ad_value.specs.Order.{order_of, number_order, text_order, folded_text};
+ghost use Rattle.ad_value.specs.Names.{lowercase};
+ghost use Rattle.ad_value.specs.Order.{order_of, number_order, text_order, folded_order, folded_text};
 
 use crate::memory::Memory;
 use crate::value::Value;
@@ -58,21 +61,45 @@ fn order_numbers(a: i64, b: i64) -> Order
 fn order_texts(alloc: Global, a: &str, b: &str) -> Result<Order, Memory>
     ensures { IfOk result (λ o. o ≡ text_order a.now b.now) }
 {
-    let a = caseless::default_case_fold_str(alloc, a)?;
-    let b = caseless::default_case_fold_str(alloc, b)?;
-    Ok(match a.as_str().cmp(b.as_str()) {
+    Ok(match fold_cmp(alloc, a, b)? {
         Ordering::Less => Order::Less,
         Ordering::Equal => Order::Equal,
         Ordering::Greater => Order::Greater,
     })
 }
 
+/// How two texts stand by the bytes of their texts after default case folding (The Unicode
+/// Standard, section 3.13). Computes in O(bytes), without memory where the texts are equal or both
+/// are ASCII.
+pub fn fold_cmp(alloc: Global, a: &str, b: &str) -> Result<Ordering, Memory>
+    ensures value { IfOk result (λ o. o ≡ folded_order a.now b.now) }
+    ensures equal { a.now ≡ b.now → IsOk result }
+    ensures ascii { IsAscii a.now → IsAscii b.now → IsOk result }
+{
+    if a == b {
+        return Ok(Ordering::Equal);
+    }
+    if a.is_ascii() && b.is_ascii() {
+        return Ok(ascii_cmp(a.as_bytes(), b.as_bytes()));
+    }
+    let a = caseless::default_case_fold_str(alloc, a)?;
+    let b = caseless::default_case_fold_str(alloc, b)?;
+    Ok(a.as_str().cmp(b.as_str()))
+}
+
+// How bytes stand with their ASCII letters in lower case.
+fn ascii_cmp(a: &[u8], b: &[u8]) -> Ordering
+    ensures { result ≡ slice_cmp nat_cmp (lowercase a.now) (lowercase b.now) }
+{
+    a.iter()
+        .map(|x| x.to_ascii_lowercase())
+        .cmp(b.iter().map(|y| y.to_ascii_lowercase()))
+}
+
 /// Whether two texts are equal after default case folding (The Unicode Standard, section 3.13).
-/// Computes in O(bytes).
+/// Computes in O(bytes), without memory where the texts are equal or both are ASCII.
 pub fn fold_eq(alloc: Global, a: &str, b: &str) -> Result<bool, Memory>
     ensures { IfOk result (λ same. IsTrue same ↔ (folded_text a.now ≡ folded_text b.now)) }
 {
-    let a = caseless::default_case_fold_str(alloc, a)?;
-    let b = caseless::default_case_fold_str(alloc, b)?;
-    Ok(a.as_str() == b.as_str())
+    Ok(fold_cmp(alloc, a, b)?.is_eq())
 }

@@ -1,5 +1,6 @@
 ghost use Rattle.std.specs.Prelude.{◌≡◌, ◌↔◌, IfOk, IsTrue};
 ghost use Rattle.ad_value.specs.Content.{content, contents};
+ghost use Rattle.ad_value.specs.Gives.{GivesValue};
 
 use crate::memory::Memory;
 use crate::seq::Copied;
@@ -33,7 +34,7 @@ impl Value {
     /// An equal value. Computes in O(size).
     #[cycle(copy)]
     pub fn copy(&self, alloc: Global) -> Result<Value, Memory>
-        ensures { IfOk result (λ v. content v ≡ content self.now) }
+        ensures { GivesValue result (content self.now) }
     {
         match self {
             Value::Undefined => Ok(Value::Undefined),
