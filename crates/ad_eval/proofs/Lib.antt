@@ -5,3 +5,6 @@ mod Looks
 mod EvalLemmas
 mod PlaceLemmas
 pub mod MatchLemmas
+mod SettlingLemmas
+mod ConditionalLemmas
+mod SideLemmas

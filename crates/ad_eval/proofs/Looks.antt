@@ -1,9 +1,14 @@
 -- What a name means, one reference at a time.
-use Rattle.std.proofs.Common.{◌≡◌, ℕ, zero, suc, ◌-◌, ◌<◌, ◌≤◌, List, [], ◌∷◌, ◌++◌, length, Option, Some, None, true, false, refl, ap, ◌∙◌, arith, rules, length-append}
-use Rattle.ad_value.specs.declared.value.Value.{the_lemmas}
+use Rattle.std.proofs.Common.{◌≡◌, ℕ, zero, suc, ◌-◌, ◌<◌, ◌≤◌, List, [], ◌∷◌, ◌++◌, length, Option, Some, None, Result, Ok, Err, true, false, refl, ap, sym, ◌∙◌, arith, rules, length-append}
+use Rattle.ad_value.specs.declared.memory.Memory.{Memory}
+use Rattle.ad_value.specs.declared.value.Value.{Value, the_lemmas}
 use Rattle.ad_value.specs.declared.value.Value.TheVariants as value
 use Rattle.ad_value.specs.Content.{Content, content, undefined, error}
-use Rattle.ad_tree.specs.Tree.{Tree}
+use Rattle.ad_value.specs.Gives.{GivesValue}
+use Rattle.ad_tree.specs.declared.tree.Expr.{Expr}
+use Rattle.ad_tree.specs.declared.tree.Expr as declared
+use Rattle.ad_tree.specs.declared.tree.Expr.TheVariants as expr
+use Rattle.ad_tree.specs.Tree.{Tree, tree, literal}
 use Rattle.ad_tree.specs.declared.operator.Scope.{Scope}
 use Rattle.ad_eval.specs.declared.sides.Side.{Side}
 use Rattle.ad_eval.specs.declared.progress.Progress.{Progress}
@@ -42,7 +47,19 @@ looked_found ads s now b c x h f there new more is =
     let fewer : MOST_IN_PROGRESS - length b - 1 ≡ MOST_IN_PROGRESS - length more = rw is (omega (arith, length-append b ((f.0, f.1) ∷ []))) in
     look_more (MOST_IN_PROGRESS - length b) ads s now b c x (omega arith) ∙ meant _ b _ f there new ∙ rw (fewer, is) refl
 
+-- where it is found, and is a literal
+pub looked_literal : (ads : Ads) (s : Side) (now : ℕ) (b : Progress) (c : Scope) (x : List ℕ) → length b < MOST_IN_PROGRESS → (f : FoundTree) → found_place ads s c x ≡ Some f → is_among f.0 f.1 b ≡ false → (v : Content) → f.2 ≡ literal v → looked_up ads s now b c x ≡ v
+looked_literal ads s now b c x h f there new v is =
+    looked_found ads s now b c x h f there new (b ++ (f.0, f.1) ∷ []) refl ∙ ap (tree_value (looked_up ads f.0 now (b ++ (f.0, f.1) ∷ [])) now) is
+
 -- the values that code gives
+pub tree_of_literal : (e : Expr) (v : Value) → e ≡ expr.Lit v → tree e ≡ literal (content v)
+tree_of_literal e v is = ap tree is ∙ search (rules, declared.the_lemmas)
+
+pub gives_same : (r : Result Value Memory) (a b : Content) → a ≡ b → GivesValue r b → GivesValue r a
+gives_same (Ok v) a b e h = h ∙ sym e
+gives_same (Err m) a b e h = tt
+
 pub error_is : content value.Error ≡ error
 error_is = search (rules, the_lemmas)
 

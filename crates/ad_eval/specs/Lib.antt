@@ -5,6 +5,8 @@ pub mod Size
 pub mod Sides
 pub mod Evaluation
 pub mod Match
+pub mod Settling
 pub mod Judgement
 pub mod JudgementCode
 pub mod FirstMatch
+pub mod Laws

@@ -4,6 +4,7 @@ use Rattle.std.specs.Prelude.{ℕ, zero, suc, ◌-◌, ◌==◌, Bool, true, fal
 use Rattle.std.specs.Borrow.{Bor}
 use Rattle.ad_value.specs.Content.{Content, undefined, error, contents_of}
 use Rattle.ad_value.specs.Content as value
+use Rattle.ad_value.specs.Truth.{truth_of, chosen_value}
 use Rattle.ad_tree.specs.declared.operator.Scope.{Scope}
 use Rattle.ad_tree.specs.declared.operator.Scope.TheVariants as scope
 use Rattle.ad_tree.specs.Tree.{Tree, Trees, Rests, literal, reference, unary, chain, choice, or_else, call, items, no_trees, and_tree, no_rests, and_rest}
@@ -13,7 +14,7 @@ use Rattle.ad_eval.specs.declared.progress.Progress.{Progress}
 use Rattle.ad_eval.specs.declared.progress.TheConstants.{MOST_IN_PROGRESS}
 use Rattle.ad_eval.specs.declared.sides.Side.{Side}
 use Rattle.ad_eval.specs.declared.sides.Side.TheVariants as side
-use Rattle.ad_eval.specs.Operators.{binary_value, unary_value, truth_of, chosen_value, first_defined}
+use Rattle.ad_eval.specs.Operators.{binary_value, unary_value, first_defined}
 
 -- the ad itself and the other ad
 pub record Ads : Type 0 where

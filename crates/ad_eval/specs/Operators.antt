@@ -7,13 +7,14 @@ use Rattle.std.proofs.Math.Bool.{beq}
 use Rattle.ad_value.specs.declared.order.Order.{Order}
 use Rattle.ad_value.specs.declared.order.Order.TheVariants as order
 use Rattle.ad_value.specs.Content.{Content, Contents, undefined, error, truth, integer, text, items, no_contents, and_content}
+use Rattle.ad_value.specs.declared.truth.Truth.{Truth}
+use Rattle.ad_value.specs.declared.truth.Truth.TheVariants as is
 use Rattle.ad_value.specs.Order.{order_of, number_of}
+use Rattle.ad_value.specs.Truth.{truth_of}
 use Rattle.ad_tree.specs.declared.operator.UnOp.{UnOp}
 use Rattle.ad_tree.specs.declared.operator.UnOp.TheVariants.{Minus, Plus, Not}
 use Rattle.ad_tree.specs.declared.operator.BinOp.{BinOp}
 use Rattle.ad_tree.specs.declared.operator.BinOp.TheVariants as bin
-use Rattle.ad_eval.specs.declared.logic.Truth.{Truth}
-use Rattle.ad_eval.specs.declared.logic.Truth.TheVariants as is
 
 -- ---- numbers: integers, and truth values counted as 1 or 0
 
@@ -97,13 +98,7 @@ abbrev mutual
   same_items (and_content a as') (and_content b bs) = same a b && same_items as' bs
   same_items as' bs = false
 
--- ---- logic: a number is true where it is not 0, and strings and lists are errors
-
-abbrev pub truth_of : Content → Truth
-truth_of undefined = is.Undefined
-truth_of (truth b) = if b then is.True else is.False
-truth_of (integer n) = if int_eq n (pos 0) then is.False else is.True
-truth_of v = is.Error
+-- ---- logic, of what values count as
 
 -- false on either side comes first, also beside an error
 abbrev pub both : Truth → Truth → Content
@@ -129,13 +124,6 @@ negated_value is.True = truth false
 negated_value is.False = truth true
 negated_value is.Undefined = undefined
 negated_value is.Error = error
-
--- the test of t ? y : n, and the two values
-abbrev pub chosen_value : Truth → Content → Content → Content
-chosen_value is.True y n = y
-chosen_value is.False y n = n
-chosen_value is.Undefined y n = undefined
-chosen_value is.Error y n = error
 
 -- first ?: other
 abbrev pub first_defined : Content → Content → Content

@@ -1,6 +1,6 @@
 ghost use Rattle.std.specs.Prelude.{◌≡◌, ◌+ℤ◌, ◌-ℤ◌, ◌*ℤ◌, neg_ℤ, ℤ};
 ghost use Rattle.ad_value.specs.Content.{Content, content, integer};
-ghost use Rattle.ad_func.specs.Values.{ComesTo};
+ghost use Rattle.ad_value.specs.Gives.{ComesTo};
 ghost use Rattle.ad_eval.specs.Operators.{integer_or_error, quotient, remainder, arithmetic_value, of_numbers, of_number};
 ghost use Rattle.ad_eval.specs.Checked.{checked_value};
 

@@ -1,21 +1,20 @@
 ghost use Rattle.std.specs.Prelude.{◌≡◌, [], map, IfOk, OnOk};
 ghost use Rattle.ad_value.specs.Content.{content};
 ghost use Rattle.ad_tree.specs.Tree.{tree, trees, trees_of, rest, rests, rests_of};
-ghost use Rattle.ad_func.specs.Values.{GivesValue};
+ghost use Rattle.ad_value.specs.Gives.{GivesValue};
 ghost use Rattle.ad_eval.specs.Evaluation.{name_values, mean, mean_on, means};
 ghost use Rattle.ad_eval.specs.Mean.{both_ads, present, attribute_value, expression_value};
 ghost use Rattle.ad_eval.specs.Operators.{binary_value};
 ghost use Rattle.ad_eval.specs.Match.{holds_as, rank_as, rank_of};
 ghost use Rattle.ad_eval.specs.Sides.{ads_of};
 
-use crate::logic::{Truth, truth_of};
 use crate::names::RANK;
 use crate::operators::{apply, apply_unary, settle};
 use crate::progress::{MOST_IN_PROGRESS, Progress};
 use crate::sides::{Side, Sides, find_in_scope};
 use ad_func::call;
 use ad_tree::{Ad, Expr, ExprList, Rest, RestList, Scope};
-use ad_value::{Memory, Value, ValueList};
+use ad_value::{Memory, Truth, Value, ValueList};
 use std::alloc::Global;
 
 // An evaluation, as far as it has come: where its memory comes from, the two ads, the moment in
@@ -62,7 +61,7 @@ impl<'a> Evaluation<'a> {
             }
             Expr::Cond { test, yes, no } => {
                 let test = self.evaluate(side, test)?;
-                match truth_of(&test) {
+                match test.truth() {
                     Truth::True => self.evaluate(side, yes),
                     Truth::False => self.evaluate(side, no),
                     Truth::Undefined => Ok(Value::Undefined),
@@ -111,6 +110,9 @@ impl<'a> Evaluation<'a> {
         if let Some(settled) = settle(step.op, value) {
             return Ok(settled);
         }
+        if let Expr::Lit(arg) = &step.arg {
+            return apply(self.alloc, step.op, value, arg);
+        }
         let arg = self.evaluate(side, &step.arg)?;
         apply(self.alloc, step.op, value, &arg)
     }
@@ -144,6 +146,9 @@ impl<'a> Evaluation<'a> {
         };
         if self.progress.contains(side, place) {
             return Ok(Value::Error);
+        }
+        if let Expr::Lit(value) = expr {
+            return value.copy(self.alloc);
         }
         self.progress.push(side, place)?;
         let value = self.evaluate(side, expr)?;

@@ -80,34 +80,29 @@ fn requirements_hold(alloc: Global, my: &Ad, target: &Ad, now: u64) -> Result<bo
     holds(alloc, my, Some(target), REQUIREMENTS, now)
 }
 
-/// Whether the Requirements of both hold with the other as target (Raman, Livny and Solomon,
-/// "Matchmaking", 1998). Computes as two calls of `holds`.
-fn matches(alloc: Global, job: &Ad, slot: &Ad, now: u64) -> Result<bool, Memory>
-    ensures { IfOk result (λ m. m ≡ matches job.now slot.now now) }
+/// Whether a job and a slot match: whether the Requirements of both hold with the other as target
+/// (Raman, Livny and Solomon, "Matchmaking", 1998), at the reading `now`, in seconds since
+/// 1970-01-01 00:00:00 UTC. A call is one step, and no pair is tested but by it. Computes in two
+/// evaluations at most.
+pub fn matches<L: Ledger>(
+    alloc: Global,
+    job: &Ad,
+    slot: &Ad,
+    now: u64,
+    steps: &mut Steps<L>,
+) -> Result<bool, Memory>
+    ensures matches { IfOk result (λ m. m ≡ matches job.now slot.now now) }
+    ensures step { steps.new ≡ steps.old + 1 }
 {
+    steps.tick();
     if !requirements_hold(alloc, job, slot, now)? {
         return Ok(false);
     }
     requirements_hold(alloc, slot, job, now)
 }
 
-/// Copies of a job and a slot where they match. `judge` counts it as a step.
-pub fn judge_pair(alloc: Global, job: &Ad, slot: &Ad, now: u64) -> Result<Option<Judged>, Memory>
-    ensures { IfOk result (JudgesPair job.now slot.now now) }
-{
-    if !matches(alloc, job, slot, now)? {
-        return Ok(None);
-    }
-    Ok(Some(Judged {
-        job: job.copy(alloc)?,
-        slot: slot.copy(alloc)?,
-        at: now,
-    }))
-}
-
-/// Copies of a job and a slot where they match, at the reading `now`, in seconds since 1970-01-01
-/// 00:00:00 UTC. A call is one step. Computes in two evaluations, and in O(size of both ads) where
-/// they match.
+/// Copies of a job and a slot where they match, as `matches` says. A call is one step. Computes as
+/// `matches`, and in O(size of both ads) where they match.
 pub fn judge<L: Ledger>(
     alloc: Global,
     job: &Ad,
@@ -118,6 +113,12 @@ pub fn judge<L: Ledger>(
     ensures judged { IfOk result (JudgesPair job.now slot.now now) }
     ensures step { steps.new ≡ steps.old + 1 }
 {
-    steps.tick();
-    judge_pair(alloc, job, slot, now)
+    if !matches(alloc, job, slot, now, steps)? {
+        return Ok(None);
+    }
+    Ok(Some(Judged {
+        job: job.copy(alloc)?,
+        slot: slot.copy(alloc)?,
+        at: now,
+    }))
 }

@@ -15,7 +15,7 @@ mod sides;
 mod steps;
 
 pub use evaluation::{eval, holds, holds_expr, rank};
-pub use judging::{Judged, judge};
+pub use judging::{Judged, judge, matches};
 pub use mismatch::{FoundMatch, NoMatch, none_match};
 pub use names::{RANK, REQUIREMENTS};
 pub use steps::Steps;

@@ -1,30 +1,8 @@
 ghost use Rattle.std.specs.Prelude.{◌≡◌};
 ghost use Rattle.ad_value.specs.Content.{content};
-ghost use Rattle.ad_eval.specs.Operators.{truth_of, both, either, negated_value};
+ghost use Rattle.ad_eval.specs.Operators.{both, either, negated_value};
 
-use ad_value::Value;
-
-/// What a value counts as in `&&`, `||`, `!` and `? :`.
-#[derive(Clone, Copy, Debug, PartialEq, Eq)]
-pub enum Truth {
-    True,
-    False,
-    Undefined,
-    Error,
-}
-
-/// A number is true where it is not 0; strings and lists count as errors.
-pub fn truth_of(value: &Value) -> Truth
-    ensures { result ≡ truth_of (content value.now) }
-{
-    match value {
-        Value::Undefined => Truth::Undefined,
-        Value::Bool(true) => Truth::True,
-        Value::Bool(false) | Value::Int(0) => Truth::False,
-        Value::Int(_) => Truth::True,
-        Value::Error | Value::Str(_) | Value::List(_) => Truth::Error,
-    }
-}
+use ad_value::{Truth, Value};
 
 /// `a && b`
 pub fn both(a: Truth, b: Truth) -> Value

@@ -1,13 +1,15 @@
-ghost use Rattle.std.specs.Prelude.{◌≡◌, false, IfOk, MatchOption, MatchResult};
+ghost use Rattle.std.specs.Prelude.{◌≡◌, ◌<◌, false, IfOk, MatchOption, MatchResult};
 ghost use Rattle.ad_eval.specs.Match.{matches_any, any_match};
 ghost use Rattle.ad_eval.specs.Judgement.{IsMismatchOf};
 ghost use Rattle.ad_eval.specs.FirstMatch.{IsFirstMatch, IsFirstSlot};
 
-use crate::judging::{Judged, judge_pair};
+use crate::judging::{Judged, judge};
+use crate::steps::Steps;
 use ad_tree::{Ad, AdList};
 use ad_value::{Copied, Memory};
 use std::alloc::Global;
-use std::marker::Model;
+use std::marker::{Brand, Model};
+use std::sync::ledger::{Blank, Ledger};
 
 /// Jobs and slots of which no pair matches at a moment: only such lists have one. Contracts see a
 /// `Mismatch`, whose `unfit` is the proof.
@@ -82,19 +84,20 @@ pub struct FoundMatch {
 }
 
 // The first slot that the job at a place matches.
-fn match_of_job(
+fn match_of_job<L: Ledger>(
     alloc: Global,
     place: usize,
     job: &Ad,
     slots: &[Ad],
     now: u64,
+    steps: &mut Steps<L>,
 ) -> Result<Option<FoundMatch>, Memory>
     ensures { IfOk result (λ o. MatchOption o
         (matches_any slots.now job.now now ≡ false)
         (IsFirstSlot slots.now job.now place now)) }
 {
     for (k, slot) in slots.iter().enumerate() {
-        if let Some(judged) = judge_pair(alloc, job, slot, now)? {
+        if let Some(judged) = judge(alloc, job, slot, now, steps)? {
             return Ok(Some(FoundMatch {
                 job: place as u64,
                 slot: k as u64,
@@ -105,19 +108,24 @@ fn match_of_job(
     Ok(None)
 }
 
-// The first match, by job, then by slot.
-fn first_match(
+// The first match, by job, then by slot. Its tests are counted for themselves.
+fn first_match<L: Ledger>(
     alloc: Global,
     jobs: &[Ad],
     slots: &[Ad],
     now: u64,
+    blank: Blank,
 ) -> Result<Option<FoundMatch>, Memory>
+    requires name { blank.name ≡ L.name }
+    requires parts { blank.parts ≡ L.parts }
+    requires some { 0 < blank.parts }
     ensures { IfOk result (λ o. MatchOption o
         (any_match jobs.now slots.now now ≡ false)
         (IsFirstMatch jobs.now slots.now now)) }
 {
+    let mut steps = Steps::<L>::new(blank);
     for (i, job) in jobs.iter().enumerate() {
-        if let Some(found) = match_of_job(alloc, i, job, slots, now)? {
+        if let Some(found) = match_of_job(alloc, i, job, slots, now, &mut steps)? {
             return Ok(Some(found));
         }
     }
@@ -138,7 +146,9 @@ pub fn none_match(
         (IsMismatchOf jobs.now slots.now now)
         (IsFirstMatch jobs.now slots.now now)) }
 {
-    if let Some(found) = first_match(alloc, jobs.as_slice(), slots.as_slice(), now)? {
+    let (jobs_slice, slots_slice) = (jobs.as_slice(), slots.as_slice());
+    let found = first_match::<Brand>(alloc, jobs_slice, slots_slice, now, Blank::new(1))?;
+    if let Some(found) = found {
         return Ok(Err(found));
     }
     Ok(Ok(NoMatch {

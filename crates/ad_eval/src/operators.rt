@@ -1,12 +1,15 @@
-ghost use Rattle.std.specs.Prelude.{◌≡◌, IfSome};
-ghost use Rattle.ad_value.specs.Content.{Content, content};
-ghost use Rattle.ad_func.specs.Values.{GivesValue};
+ghost use Rattle.std.specs.Prelude.{◌≡◌};
+ghost use Rattle.std.specs.Option.{option_map};
+ghost use Rattle.ad_value.specs.Content.{content};
+ghost use Rattle.ad_value.specs.Truth.{truth_of};
+ghost use Rattle.ad_value.specs.Gives.{GivesValue};
 ghost use Rattle.ad_eval.specs.Operators.{binary_value, unary_value, comparison_result, stands, same, of_numbers, arithmetic_value};
+ghost use Rattle.ad_eval.specs.Settling.{settled_value, when_true, when_false, when_unordered, when_not_counted};
 
 use crate::arithmetic::{arithmetic_value, operand_numbers, unary_minus, unary_plus};
-use crate::logic::{Truth, both, either, negated_value, truth_of};
+use crate::logic::{both, either, negated_value};
 use ad_tree::{BinOp, UnOp};
-use ad_value::{Memory, Order, Value};
+use ad_value::{Memory, Order, Truth, Value};
 use std::alloc::Global;
 
 fn stands(op: BinOp, order: Order) -> bool
@@ -54,8 +57,8 @@ pub fn apply(alloc: Global, op: BinOp, a: &Value, b: &Value) -> Result<Value, Me
     ensures { GivesValue result (binary_value op (content a.now) (content b.now)) }
 {
     match op {
-        BinOp::Or => Ok(either(truth_of(a), truth_of(b))),
-        BinOp::And => Ok(both(truth_of(a), truth_of(b))),
+        BinOp::Or => Ok(either(a.truth(), b.truth())),
+        BinOp::And => Ok(both(a.truth(), b.truth())),
         BinOp::Same => Ok(Value::Bool(same(a, b))),
         BinOp::NotSame => Ok(Value::Bool(!same(a, b))),
         BinOp::Equal
@@ -70,14 +73,60 @@ pub fn apply(alloc: Global, op: BinOp, a: &Value, b: &Value) -> Result<Value, Me
     }
 }
 
-/// The value where the left operand alone gives it.
+/// The value where the left operand alone gives it: nothing exactly where the right one matters
+/// (`laws::left_side_settles`).
 pub fn settle(op: BinOp, a: &Value) -> Option<Value>
-    ensures { IfSome result (λ v. (b : Content) → binary_value op (content a.now) b ≡ content v) }
+    ensures { option_map content result ≡ settled_value op (content a.now) }
 {
-    match (op, truth_of(a)) {
-        (BinOp::And, Truth::False) => Some(Value::Bool(false)),
-        (BinOp::Or, Truth::True) => Some(Value::Bool(true)),
-        _ => None,
+    match op {
+        BinOp::Or => when_true(a),
+        BinOp::And => when_false(a),
+        BinOp::Same | BinOp::NotSame => None,
+        BinOp::Equal
+        | BinOp::NotEqual
+        | BinOp::Less
+        | BinOp::LessEqual
+        | BinOp::GreaterEqual
+        | BinOp::Greater => when_unordered(a),
+        BinOp::Add | BinOp::Subtract | BinOp::Multiply | BinOp::Divide | BinOp::Modulo => {
+            when_not_counted(a)
+        }
+    }
+}
+
+fn when_true(a: &Value) -> Option<Value>
+    ensures { option_map content result ≡ when_true (truth_of (content a.now)) }
+{
+    match a.truth() {
+        Truth::True => Some(Value::Bool(true)),
+        Truth::False | Truth::Undefined | Truth::Error => None,
+    }
+}
+
+fn when_false(a: &Value) -> Option<Value>
+    ensures { option_map content result ≡ when_false (truth_of (content a.now)) }
+{
+    match a.truth() {
+        Truth::False => Some(Value::Bool(false)),
+        Truth::True | Truth::Undefined | Truth::Error => None,
+    }
+}
+
+fn when_unordered(a: &Value) -> Option<Value>
+    ensures { option_map content result ≡ when_unordered (content a.now) }
+{
+    match a {
+        Value::Error | Value::List(_) => Some(Value::Error),
+        Value::Undefined | Value::Bool(_) | Value::Int(_) | Value::Str(_) => None,
+    }
+}
+
+fn when_not_counted(a: &Value) -> Option<Value>
+    ensures { option_map content result ≡ when_not_counted (content a.now) }
+{
+    match a {
+        Value::Error | Value::Str(_) | Value::List(_) => Some(Value::Error),
+        Value::Undefined | Value::Bool(_) | Value::Int(_) => None,
     }
 }
 
@@ -88,6 +137,6 @@ pub fn apply_unary(op: UnOp, a: &Value) -> Value
     match op {
         UnOp::Minus => unary_minus(a),
         UnOp::Plus => unary_plus(a),
-        UnOp::Not => negated_value(truth_of(a)),
+        UnOp::Not => negated_value(a.truth()),
     }
 }

@@ -1,3 +1,4 @@
 mod ArgumentLemmas
 mod NumberLemmas
 mod ListLemmas
+pub mod FunctionLemmas

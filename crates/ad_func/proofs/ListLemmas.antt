@@ -16,12 +16,12 @@ pub equal_found : (x : Content) (vs : List Value) (i : ℕ) (v : Value) → i < 
 equal_found x vs i v p at e =
     any_of (λ c. is_equal (order_of x c)) vs ∙ list_any_at (λ w. is_equal (order_of x (content w))) vs i v p (ap (λ w. is_equal (order_of x (content w))) (sym at) ∙ e)
 
-pub member_is : (x : Content) (v : Value) (l : ValueList) (b : Bool) → v ≡ value.List l → is_of_kind kind.Items x ≡ false → b ≡ has_equal x (map content l.items.items) → content (value.Bool b) ≡ member x (content v)
+pub member_is : (x : Content) (v : Value) (l : ValueList) (b : Bool) → v ≡ value.List l → is_of_kind kind.List x ≡ false → b ≡ has_equal x (map content l.items.items) → content (value.Bool b) ≡ member x (content v)
 member_is x v l b e k h =
     content_of_truth b ∙ ap truth (h ∙ ap (has_equal x) (sym (listed_is l))) ∙ sym (in_list x (contents_of (contents l)) k) ∙ ap (member x) (sym (ap content e ∙ content_of_list l))
   where
     content_of_truth : (t : Bool) → content (value.Bool t) ≡ truth t
     content_of_truth t = search (rules, the_lemmas)
 
-    in_list : (y : Content) (cs : Contents) → is_of_kind kind.Items y ≡ false → member y (items cs) ≡ truth (has_equal y (list_content cs))
+    in_list : (y : Content) (cs : Contents) → is_of_kind kind.List y ≡ false → member y (items cs) ≡ truth (has_equal y (list_content cs))
     in_list y cs n = rw n refl

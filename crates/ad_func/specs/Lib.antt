@@ -6,3 +6,4 @@ pub mod Numbers
 pub mod Texts
 pub mod Lists
 pub mod Called
+pub mod Laws

@@ -17,7 +17,7 @@ abbrev pub has_equal : Content → List Content → Bool
 has_equal x vs = list_any (λ v. is_equal (order_of x v)) vs
 
 abbrev pub member : Content → Content → Content
-member x (items l) = if is_of_kind kind.Items x then error else truth (has_equal x (list_content l))
+member x (items l) = if is_of_kind kind.List x then error else truth (has_equal x (list_content l))
 member x v = error
 
 abbrev pub has_char : List ℕ → ℕ → Bool

@@ -7,7 +7,7 @@ use Rattle.std.specs.Cmp.Lexicographic.{slice_cmp}
 use Rattle.std.specs.declared.cmp.Ordering.{Ordering}
 use Rattle.std.specs.declared.cmp.Ordering.TheVariants as ordering
 use Rattle.ad_value.specs.Content.{Content, error, truth, integer, text}
-use Rattle.ad_value.specs.Order.{folded_text}
+use Rattle.ad_value.specs.Order.{folded_order}
 use Rattle.ad_func.specs.Arguments.{strict}
 
 -- a list has no text
@@ -57,7 +57,7 @@ abbrev pub comparison_value : List ℕ → List ℕ → Content
 comparison_value a b = integer (sign (slice_cmp nat_cmp a b))
 
 abbrev pub folded_comparison_value : List ℕ → List ℕ → Content
-folded_comparison_value a b = comparison_value (folded_text a) (folded_text b)
+folded_comparison_value a b = integer (sign (folded_order a b))
 
 abbrev pub strcmp : Content → Content → Content
 strcmp x y = of_strings comparison_value x y

@@ -1,18 +1,9 @@
 -- Values as contracts see them: by their contents.
-use Rattle.std.specs.Prelude.{◌≡◌, ℕ, List, map, Option, option_map, String, Result, IfOk, MatchResult}
+use Rattle.std.specs.Prelude.{ℕ, List, map, Option, option_map, String}
 use Rattle.std.specs.Borrow.{Bor}
 use Rattle.std.specs.String.{string_bytes}
-use Rattle.ad_value.specs.declared.memory.Memory.{Memory}
 use Rattle.ad_value.specs.declared.value.Value.{Value}
 use Rattle.ad_value.specs.Content.{Content, content}
-
--- the value of that content, unless memory runs out
-abbrev pub GivesValue : Result Value Memory → Content → Type 0
-GivesValue r c = IfOk r (λ v. content v ≡ c)
-
--- what comes of arguments: what f makes of them, or a value already
-abbrev pub ComesTo : {T : Type 0} → Result T Value → Content → (T → Content) → Type 0
-ComesTo r c f = MatchResult r (λ x. c ≡ f x) (λ v. c ≡ content v)
 
 -- the arguments of a call, and one that may be left out
 abbrev pub arguments : List Value → List Content

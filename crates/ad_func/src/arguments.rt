@@ -1,7 +1,8 @@
 ghost use Rattle.std.specs.Prelude.{◌≡◌, Option, MatchResult};
 ghost use Rattle.std.specs.List.{list_any};
 ghost use Rattle.ad_value.specs.Content.{Content, content};
-ghost use Rattle.ad_func.specs.Values.{ComesTo, arguments, optional_argument};
+ghost use Rattle.ad_value.specs.Gives.{ComesTo};
+ghost use Rattle.ad_func.specs.Values.{arguments, optional_argument};
 ghost use Rattle.ad_func.specs.Arguments.{is_error, is_undefined, strict, with_one, with_two, with_three, with_one_or_two, with_two_or_three};
 
 use ad_value::Value;

@@ -1,15 +1,17 @@
 ghost use Rattle.std.specs.Prelude.{◌≡◌};
-ghost use Rattle.ad_func.specs.Function.{function_name, function_named};
+ghost use Rattle.std.specs.List.{find};
+ghost use Rattle.ad_value.specs.Names.{same_name};
+ghost use Rattle.ad_func.specs.Function.{function_name, functions_of_length, function_named};
 
 /// What an `is..` function asks for.
 #[derive(Clone, Copy, Debug, PartialEq, Eq)]
 pub enum ValueKind {
     Undefined,
     Error,
-    Text,
-    Integer,
-    Truth,
-    Items,
+    Bool,
+    Int,
+    Str,
+    List,
 }
 
 /// A function of the ClassAd language.
@@ -32,29 +34,6 @@ pub enum Function {
     Time,
 }
 
-const FUNCTIONS: [Function; 20] = [
-    Function::Is(ValueKind::Undefined),
-    Function::Is(ValueKind::Error),
-    Function::Is(ValueKind::Text),
-    Function::Is(ValueKind::Integer),
-    Function::Is(ValueKind::Truth),
-    Function::Is(ValueKind::Items),
-    Function::IfThenElse,
-    Function::Int,
-    Function::String,
-    Function::Strcat,
-    Function::ToUpper,
-    Function::ToLower,
-    Function::Substr,
-    Function::Size,
-    Function::Member,
-    Function::StringListMember,
-    Function::StringListSize,
-    Function::Strcmp,
-    Function::Stricmp,
-    Function::Time,
-];
-
 impl Function {
     fn name(self) -> &'static str
         ensures { result.now ≡ function_name self }
@@ -62,10 +41,10 @@ impl Function {
         match self {
             Function::Is(ValueKind::Undefined) => "isUndefined",
             Function::Is(ValueKind::Error) => "isError",
-            Function::Is(ValueKind::Text) => "isString",
-            Function::Is(ValueKind::Integer) => "isInteger",
-            Function::Is(ValueKind::Truth) => "isBoolean",
-            Function::Is(ValueKind::Items) => "isList",
+            Function::Is(ValueKind::Str) => "isString",
+            Function::Is(ValueKind::Int) => "isInteger",
+            Function::Is(ValueKind::Bool) => "isBoolean",
+            Function::Is(ValueKind::List) => "isList",
             Function::IfThenElse => "ifThenElse",
             Function::Int => "int",
             Function::String => "string",
@@ -82,14 +61,58 @@ impl Function {
             Function::Time => "time",
         }
     }
+
+    fn is_named(self, name: &str) -> bool
+        ensures { result ≡ same_name (function_name self) name.now }
+    {
+        self.name().eq_ignore_ascii_case(name)
+    }
 }
 
-/// The function of that name, without ASCII case.
+// The functions whose names have so many bytes.
+fn functions_of_length(length: usize) -> &'static [Function]
+    ensures { result.now ≡ functions_of_length length }
+{
+    match length {
+        3 => &[Function::Int],
+        4 => &[Function::Size, Function::Time],
+        6 => &[
+            Function::Is(ValueKind::List),
+            Function::String,
+            Function::Strcat,
+            Function::Substr,
+            Function::Member,
+            Function::Strcmp,
+        ],
+        7 => &[
+            Function::Is(ValueKind::Error),
+            Function::ToUpper,
+            Function::ToLower,
+            Function::Stricmp,
+        ],
+        8 => &[Function::Is(ValueKind::Str)],
+        9 => &[Function::Is(ValueKind::Int), Function::Is(ValueKind::Bool)],
+        10 => &[Function::IfThenElse],
+        11 => &[Function::Is(ValueKind::Undefined)],
+        14 => &[Function::StringListSize],
+        16 => &[Function::StringListMember],
+        _ => &[],
+    }
+}
+
+fn named_among(functions: &[Function], name: &str) -> Option<Function>
+    ensures { result ≡ find (λ f. same_name (function_name f) name.now) functions.now }
+{
+    functions
+        .iter()
+        .copied()
+        .find(|function| function.is_named(name))
+}
+
+/// The function of that name, without ASCII case. Computes in O(bytes of the name): only functions
+/// with names of its length are looked at.
 pub fn function_named(name: &str) -> Option<Function>
     ensures { result ≡ function_named name.now }
 {
-    FUNCTIONS
-        .iter()
-        .copied()
-        .find(|function| function.name().eq_ignore_ascii_case(name))
+    named_among(functions_of_length(name.len()), name)
 }

@@ -1,10 +1,12 @@
 ghost use Rattle.std.specs.Prelude.{◌≡◌};
 ghost use Rattle.ad_value.specs.Content.{content};
-ghost use Rattle.ad_func.specs.Values.{GivesValue, arguments};
-ghost use Rattle.ad_func.specs.Kinds.{is_of_kind, kind_test, chosen_argument, if_then_else};
+ghost use Rattle.ad_value.specs.Truth.{truth_of, chosen_value};
+ghost use Rattle.ad_value.specs.Gives.{GivesValue};
+ghost use Rattle.ad_func.specs.Values.{arguments};
+ghost use Rattle.ad_func.specs.Kinds.{is_of_kind, kind_test, if_then_else};
 
 use crate::function::ValueKind;
-use ad_value::{Memory, Value};
+use ad_value::{Memory, Truth, Value};
 use std::alloc::Global;
 
 /// Whether the value is of the kind.
@@ -15,10 +17,10 @@ pub fn is_of_kind(kind: ValueKind, value: &Value) -> bool
         (kind, value),
         (ValueKind::Undefined, Value::Undefined)
             | (ValueKind::Error, Value::Error)
-            | (ValueKind::Text, Value::Str(_))
-            | (ValueKind::Integer, Value::Int(_))
-            | (ValueKind::Truth, Value::Bool(_))
-            | (ValueKind::Items, Value::List(_))
+            | (ValueKind::Str, Value::Str(_))
+            | (ValueKind::Int, Value::Int(_))
+            | (ValueKind::Bool, Value::Bool(_))
+            | (ValueKind::List, Value::List(_))
     )
 }
 
@@ -34,15 +36,13 @@ pub fn kind_test(kind: ValueKind, values: &[Value]) -> Value
 
 fn chosen_argument(alloc: Global, test: &Value, yes: &Value, no: &Value) -> Result<Value, Memory>
     ensures { GivesValue result
-        (chosen_argument (content test.now) (content yes.now) (content no.now)) }
+        (chosen_value (truth_of (content test.now)) (content yes.now) (content no.now)) }
 {
-    match test {
-        Value::Undefined => Ok(Value::Undefined),
-        Value::Bool(true) => yes.copy(alloc),
-        Value::Bool(false) => no.copy(alloc),
-        Value::Int(0) => no.copy(alloc),
-        Value::Int(_) => yes.copy(alloc),
-        Value::Error | Value::Str(_) | Value::List(_) => Ok(Value::Error),
+    match test.truth() {
+        Truth::True => yes.copy(alloc),
+        Truth::False => no.copy(alloc),
+        Truth::Undefined => Ok(Value::Undefined),
+        Truth::Error => Ok(Value::Error),
     }
 }
 

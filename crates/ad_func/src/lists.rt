@@ -2,7 +2,8 @@ ghost use Rattle.std.specs.Prelude.{◌≡◌, ◌+◌, ◌≤◌, ◌<◌, ◌^
 ghost use Rattle.std.specs.List.{list_any};
 ghost use Rattle.ad_value.specs.Content.{content};
 ghost use Rattle.ad_value.specs.Order.{order_of};
-ghost use Rattle.ad_func.specs.Values.{GivesValue, arguments, optional_argument};
+ghost use Rattle.ad_value.specs.Gives.{GivesValue};
+ghost use Rattle.ad_func.specs.Values.{arguments, optional_argument};
 ghost use Rattle.ad_func.specs.Arguments.{with_two, with_one_or_two, with_two_or_three};
 ghost use Rattle.ad_func.specs.Lists.{is_equal, has_equal, member, pieces_between, pieces, has_piece, string_list_member, string_list_size};
 
@@ -38,7 +39,7 @@ fn member_value(alloc: Global, x: &Value, list: &Value) -> Result<Value, Memory>
     let Value::List(list) = list else {
         return Ok(Value::Error);
     };
-    if is_of_kind(ValueKind::Items, x) {
+    if is_of_kind(ValueKind::List, x) {
         return Ok(Value::Error);
     }
     Ok(Value::Bool(has_equal(alloc, x, &list.items)?))

@@ -1,4 +1,5 @@
-ghost use Rattle.ad_func.specs.Values.{GivesValue, arguments};
+ghost use Rattle.ad_value.specs.Gives.{GivesValue};
+ghost use Rattle.ad_func.specs.Values.{arguments};
 ghost use Rattle.ad_func.specs.Called.{call_value, function_value};
 
 use crate::function::{Function, function_named};

@@ -1,12 +1,13 @@
 ghost use Rattle.std.specs.Prelude.{◌≡◌, Some, IfOk, string_bytes};
-ghost use Rattle.ad_value.specs.Content.{content, text as text_value};
-ghost use Rattle.ad_func.specs.Values.{GivesValue, arguments, optional_argument, optional_bytes};
+ghost use Rattle.ad_value.specs.Content.{content, integer, text as text_value};
+ghost use Rattle.ad_value.specs.Gives.{GivesValue};
+ghost use Rattle.ad_func.specs.Values.{arguments, optional_argument, optional_bytes};
 ghost use Rattle.ad_func.specs.Arguments.{with_one, with_two, with_two_or_three};
-ghost use Rattle.ad_func.specs.Texts.{plain_text, text_of_all, from_string, of_string, strcat, upper, lower, comparison_value, folded_comparison_value, strcmp, stricmp, substr, start_of, end_of, characters, substring, substring_of_length};
+ghost use Rattle.ad_func.specs.Texts.{plain_text, text_of_all, from_string, of_string, strcat, upper, lower, sign, comparison_value, folded_comparison_value, strcmp, stricmp, substr, start_of, end_of, characters, substring, substring_of_length};
 
 use crate::arguments::{one, two, two_or_three, unless_settled};
 use crate::numbers::characters_in;
-use ad_value::{Memory, Text, Value};
+use ad_value::{Memory, Text, Value, fold_cmp};
 use itoa::Buffer;
 use std::alloc::{AllocError, Global};
 use std::cmp::Ordering;
@@ -96,25 +97,39 @@ pub fn to_lower(alloc: Global, values: &[Value]) -> Result<Value, Memory>
     }
 }
 
-fn compare(a: &str, b: &str) -> Value
-    ensures { content result ≡ comparison_value a.now b.now }
+fn sign_value(order: Ordering) -> Value
+    ensures { content result ≡ integer (sign order) }
 {
-    match a.cmp(b) {
+    match order {
         Ordering::Less => Value::Int(-1),
         Ordering::Equal => Value::Int(0),
         Ordering::Greater => Value::Int(1),
     }
 }
 
+fn compare(a: &str, b: &str) -> Value
+    ensures { content result ≡ comparison_value a.now b.now }
+{
+    sign_value(a.cmp(b))
+}
+
 fn compare_folded(alloc: Global, a: &str, b: &str) -> Result<Value, Memory>
     ensures { GivesValue result (folded_comparison_value a.now b.now) }
 {
-    let a = caseless::default_case_fold_str(alloc, a)?;
-    let b = caseless::default_case_fold_str(alloc, b)?;
-    Ok(compare(a.as_str(), b.as_str()))
+    Ok(sign_value(fold_cmp(alloc, a, b)?))
 }
 
+// Two strings are compared as they lie.
 fn compare_values(alloc: Global, x: &Value, y: &Value) -> Result<Value, Memory>
+    ensures { GivesValue result (strcmp (content x.now) (content y.now)) }
+{
+    match (x, y) {
+        (Value::Str(a), Value::Str(b)) => Ok(compare(a.as_str(), b.as_str())),
+        _ => compare_plain_texts(alloc, x, y),
+    }
+}
+
+fn compare_plain_texts(alloc: Global, x: &Value, y: &Value) -> Result<Value, Memory>
     ensures { GivesValue result (strcmp (content x.now) (content y.now)) }
 {
     let Some(a) = plain_text(alloc, x)? else {
@@ -127,6 +142,15 @@ fn compare_values(alloc: Global, x: &Value, y: &Value) -> Result<Value, Memory>
 }
 
 fn compare_values_folded(alloc: Global, x: &Value, y: &Value) -> Result<Value, Memory>
+    ensures { GivesValue result (stricmp (content x.now) (content y.now)) }
+{
+    match (x, y) {
+        (Value::Str(a), Value::Str(b)) => compare_folded(alloc, a.as_str(), b.as_str()),
+        _ => compare_plain_texts_folded(alloc, x, y),
+    }
+}
+
+fn compare_plain_texts_folded(alloc: Global, x: &Value, y: &Value) -> Result<Value, Memory>
     ensures { GivesValue result (stricmp (content x.now) (content y.now)) }
 {
     let Some(a) = plain_text(alloc, x)? else {

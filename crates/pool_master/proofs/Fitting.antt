@@ -5,7 +5,8 @@ use Rattle.std.specs.Ordering.{int_eq}
 use Rattle.ad_value.specs.declared.order.Order.TheVariants.{Less, Equal, Greater}
 use Rattle.ad_value.specs.Content.{truth}
 use Rattle.ad_tree.specs.declared.operator.BinOp.TheVariants.{GreaterEqual}
-use Rattle.ad_eval.specs.Operators.{both, truth_of, comparison_result}
+use Rattle.ad_value.specs.Truth.{truth_of}
+use Rattle.ad_eval.specs.Operators.{both, comparison_result}
 use Rattle.ad_eval.specs.Mean.{look}
 use Rattle.ad_eval.specs.Match.{matches, holds_as, requirements_hold}
 use Rattle.pool_master.specs.Made.{job_ad, slot_ad}
