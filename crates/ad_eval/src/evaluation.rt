@@ -1,10 +1,12 @@
 ghost use Rattle.std.specs.Prelude.{◌≡◌, [], map, IfOk, OnOk};
-ghost use Rattle.ad_value.specs.Content.{content};
+ghost use Rattle.ad_value.specs.Content.{content, contents_of, items};
+ghost use Rattle.ad_value.specs.Truth.{truth_of, chosen_value};
 ghost use Rattle.ad_tree.specs.Tree.{tree, trees, trees_of, rest, rests, rests_of};
 ghost use Rattle.ad_value.specs.Gives.{GivesValue};
+ghost use Rattle.ad_func.specs.Called.{call_value};
 ghost use Rattle.ad_eval.specs.Evaluation.{name_values, mean, mean_on, means};
 ghost use Rattle.ad_eval.specs.Mean.{both_ads, present, attribute_value, expression_value};
-ghost use Rattle.ad_eval.specs.Operators.{binary_value};
+ghost use Rattle.ad_eval.specs.Operators.{binary_value, unary_value, first_defined};
 ghost use Rattle.ad_eval.specs.Match.{holds_as, rank_as, rank_of};
 ghost use Rattle.ad_eval.specs.Sides.{ads_of};
 
@@ -13,7 +15,7 @@ use crate::operators::{apply, apply_unary, settle};
 use crate::progress::{MOST_IN_PROGRESS, Progress};
 use crate::sides::{Side, Sides, find_in_scope};
 use ad_func::call;
-use ad_tree::{Ad, Expr, ExprList, Rest, RestList, Scope};
+use ad_tree::{Ad, Expr, ExprList, Rest, RestList, Scope, UnOp};
 use ad_value::{Memory, Truth, Value, ValueList};
 use std::alloc::Global;
 
@@ -42,8 +44,10 @@ impl<'a> Evaluation<'a> {
         }
     }
 
-    // What an expression means on a side.
+    // What an expression means on a side. Each form has a function of its own, so that one level of
+    // an expression takes little of the stack.
     #[cycle(eval)]
+    #[inline(never)]
     fn evaluate(&mut self, side: Side, expr: &Expr) -> Result<Value, Memory>
         ensures value { GivesValue result (mean self.old side (tree expr.now)) }
         ensures kept { OnOk result (self.new ≡ self.old) }
@@ -51,50 +55,105 @@ impl<'a> Evaluation<'a> {
         match expr {
             Expr::Lit(value) => value.copy(self.alloc),
             Expr::Ref { scope, name } => self.refer(side, *scope, name.as_str()),
-            Expr::Unary { op, arg } => {
-                let value = self.evaluate(side, arg)?;
-                Ok(apply_unary(*op, &value))
-            }
-            Expr::Chain { first, rest } => {
-                let value = self.evaluate(side, first)?;
-                self.go_on(side, value, rest)
-            }
-            Expr::Cond { test, yes, no } => {
-                let test = self.evaluate(side, test)?;
-                match test.truth() {
-                    Truth::True => self.evaluate(side, yes),
-                    Truth::False => self.evaluate(side, no),
-                    Truth::Undefined => Ok(Value::Undefined),
-                    Truth::Error => Ok(Value::Error),
-                }
-            }
-            Expr::OrElse { first, other } => match self.evaluate(side, first)? {
-                Value::Undefined => self.evaluate(side, other),
-                value => Ok(value),
-            },
-            Expr::Call { name, args } => {
-                let values = self.evaluate_all(side, args)?;
-                call(self.alloc, name.as_str(), &values.items, self.now)
-            }
-            Expr::Items(items) => {
-                let values = self.evaluate_all(side, items)?;
-                Ok(Value::List(values))
-            }
+            Expr::Unary { op, arg } => self.unary_value(side, *op, arg),
+            Expr::Chain { first, rest } => self.chain_value(side, first, rest),
+            Expr::Cond { test, yes, no } => self.choice_value(side, test, yes, no),
+            Expr::OrElse { first, other } => self.value_or_else(side, first, other),
+            Expr::Call { name, args } => self.call_value(side, name.as_str(), args),
+            Expr::Items(items) => self.list_value(side, items),
         }
     }
 
-    // What operators and operands make of the value before them.
+    // What an operator before its operand makes of it.
     #[cycle(eval)]
-    fn go_on(&mut self, side: Side, first: Value, rest: &RestList) -> Result<Value, Memory>
-        ensures value { GivesValue result
-            (mean_on self.old side (content first) (rests_of (rests rest.now))) }
+    #[inline(never)]
+    fn unary_value(&mut self, side: Side, op: UnOp, arg: &Expr) -> Result<Value, Memory>
+        ensures value { GivesValue result (unary_value op (mean self.old side (tree arg.now))) }
         ensures kept { OnOk result (self.new ≡ self.old) }
     {
-        let mut value = first;
+        let value = self.evaluate(side, arg)?;
+        Ok(apply_unary(op, &value))
+    }
+
+    // What operators and operands make of the first one.
+    #[cycle(eval)]
+    #[inline(never)]
+    fn chain_value(&mut self, side: Side, first: &Expr, rest: &RestList) -> Result<Value, Memory>
+        ensures value { GivesValue result (mean_on self.old side
+            (mean self.old side (tree first.now))
+            (rests_of (rests rest.now))) }
+        ensures kept { OnOk result (self.new ≡ self.old) }
+    {
+        let mut value = self.evaluate(side, first)?;
         for step in &rest.items {
             value = self.take_step(side, &value, step)?;
         }
         Ok(value)
+    }
+
+    // What is chosen; the other one is not evaluated.
+    #[cycle(eval)]
+    #[inline(never)]
+    fn choice_value(
+        &mut self,
+        side: Side,
+        test: &Expr,
+        yes: &Expr,
+        no: &Expr,
+    ) -> Result<Value, Memory>
+        ensures value { GivesValue result (chosen_value
+            (truth_of (mean self.old side (tree test.now)))
+            (mean self.old side (tree yes.now))
+            (mean self.old side (tree no.now))) }
+        ensures kept { OnOk result (self.new ≡ self.old) }
+    {
+        match self.evaluate(side, test)?.truth() {
+            Truth::True => self.evaluate(side, yes),
+            Truth::False => self.evaluate(side, no),
+            Truth::Undefined => Ok(Value::Undefined),
+            Truth::Error => Ok(Value::Error),
+        }
+    }
+
+    // The first where it is not undefined, else the other.
+    #[cycle(eval)]
+    #[inline(never)]
+    fn value_or_else(&mut self, side: Side, first: &Expr, other: &Expr) -> Result<Value, Memory>
+        ensures value { GivesValue result (first_defined
+            (mean self.old side (tree first.now))
+            (mean self.old side (tree other.now))) }
+        ensures kept { OnOk result (self.new ≡ self.old) }
+    {
+        match self.evaluate(side, first)? {
+            Value::Undefined => self.evaluate(side, other),
+            value => Ok(value),
+        }
+    }
+
+    // What a function makes of its arguments.
+    #[cycle(eval)]
+    #[inline(never)]
+    fn call_value(&mut self, side: Side, name: &str, args: &ExprList) -> Result<Value, Memory>
+        ensures value { GivesValue result (call_value
+            name.now
+            (means self.old side (trees_of (trees args.now)))
+            self.old.now) }
+        ensures kept { OnOk result (self.new ≡ self.old) }
+    {
+        let values = self.evaluate_all(side, args)?;
+        call(self.alloc, name, &values.items, self.now)
+    }
+
+    // The list of the items' values.
+    #[cycle(eval)]
+    #[inline(never)]
+    fn list_value(&mut self, side: Side, exprs: &ExprList) -> Result<Value, Memory>
+        ensures value { GivesValue result
+            (items (contents_of (means self.old side (trees_of (trees exprs.now))))) }
+        ensures kept { OnOk result (self.new ≡ self.old) }
+    {
+        let values = self.evaluate_all(side, exprs)?;
+        Ok(Value::List(values))
     }
 
     // What an operator and its operand make of the value before them. The operand is not evaluated
