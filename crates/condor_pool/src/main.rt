@@ -5,7 +5,8 @@ ghost use Rattle.std.specs.Prelude.{◌≡◌, All, IfOk, length};
 
 use clap::{Arg, Command};
 use pool_master::{Ran, Status, run_pool};
-use pool_outer::{ChildSpawner, DiskStore, OpenGate, Spawner, StdSink, SystemClock};
+use pool_outer::{ChildSpawner, OpenGate, Spawner, StdSink, SystemClock};
+use pool_store::DiskStore;
 use std::alloc::{AllocError, Global};
 use std::fs::File;
 use std::process::{ExitCode, Processes, id};

@@ -1,4 +1,5 @@
-use pool_outer::{DiskStore, Store, StoreError};
+use pool_outer::{Store, StoreError};
+use pool_store::DiskStore;
 use std::alloc::Global;
 use std::fs;
 use std::process::Abort;

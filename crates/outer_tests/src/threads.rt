@@ -1,7 +1,5 @@
-use pool_outer::{
-    ChildSpawner, DiskStore, MemClock, MemSpawner, MemStore, OpenGate, SureSpawner, SureStore,
-    SystemClock,
-};
+use pool_outer::{ChildSpawner, MemClock, MemSpawner, OpenGate, SureSpawner, SystemClock};
+use pool_store::{DiskStore, MemStore, SureStore};
 
 // What threads may take.
 fn moves<T: Send>() {}

@@ -7,25 +7,6 @@ use Rattle.pool_outer.specs.declared.spawner.memory.MemChild.{MemChild}
 use Rattle.pool_outer.specs.declared.spawner.memory.MemSpawner.{MemSpawner}
 use Rattle.pool_outer.specs.declared.spawner.memory.Script.{Script}
 use Rattle.pool_outer.specs.declared.spawner.memory.SureSpawner.{SureSpawner}
-use Rattle.pool_outer.specs.declared.store.memory.MemFile.{MemFile}
-use Rattle.pool_outer.specs.declared.store.memory.MemStore.{MemStore}
-use Rattle.pool_outer.specs.declared.store.memory.SureStore.{SureStore}
-
--- the files of a store that never fails
-abbrev pub files_of : SureStore → List MemFile
-files_of store = store.files.items
-
--- the store that never fails, under one that does
-abbrev pub sure_store : MemStore → SureStore
-sure_store store = store.inner
-
--- a store's calls, of which some fail
-abbrev pub store_calls : MemStore → FailingCalls
-store_calls store = store.calls
-
--- how many of a store's calls have failed
-abbrev pub store_faults : MemStore → ℕ
-store_faults store = store.faults
 
 -- the scripts of a spawner that never fails
 abbrev pub scripts_of : SureSpawner → List Script

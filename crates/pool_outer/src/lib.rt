@@ -13,6 +13,8 @@ mod spawner;
 mod store;
 
 pub use clock::{Clock, LAST_READING, MemClock, SystemClock};
+pub use failing::FailingCalls;
+pub use faults::count_fault;
 pub use gate::{Daemon, Gate, OpenGate, Point};
 pub use limit::Which;
 pub use sink::{MemSink, Sink, SinkError, StdSink};
@@ -20,4 +22,4 @@ pub use spawner::{
     ChildEnd, ChildSpawner, ChildState, FailingSpawns, Launch, MemSpawner, Script, SpawnError,
     Spawner, SureSpawner,
 };
-pub use store::{DiskStore, MemFile, MemStore, Store, StoreError, SureStore};
+pub use store::{Store, StoreError};

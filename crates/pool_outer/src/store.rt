@@ -1,16 +1,11 @@
-ghost use Rattle.std.specs.Prelude.{◌≡◌, ◌≤◌, ℕ, List, Bool, true, false, Option, Some, None, length, IfOk, OnOk, IsErrOf, IsSome};
+ghost use Rattle.std.specs.Prelude.{◌≡◌, ◌≢◌, ◌≤◌, ℕ, List, Bool, true, Option, Some, length, IfOk, IsSome};
 ghost use Rattle.std.specs.Option.{option_map};
 ghost use Rattle.pool_outer.specs.declared.store.StoreError.TheVariants.{Failed, Memory as NoMemory};
 ghost use Rattle.pool_outer.specs.Cause.{HasCause};
-ghost use Rattle.pool_outer.specs.Files.{ReadAt, Leaves, Elapses, SameFiles};
-
-mod disk;
-mod memory;
+ghost use Rattle.pool_outer.specs.Files.{bytes_in, ReadAt, Leaves, Elapses, SameFiles, Appends, Syncs, Cuts, Renames, Misses, Learns, Relabels};
 
 use ad_value::Memory;
-pub use disk::DiskStore;
-pub use memory::{MemFile, MemStore, SureStore};
-use std::alloc::Global;
+use std::alloc::{AllocError, AllocFailed, Global};
 use thiserror::Error;
 
 #[derive(Clone, Copy, Debug, PartialEq, Eq, Error)]
@@ -54,16 +49,15 @@ pub trait Store: Drop {
     fn size(&mut self, alloc: Global, name: &str) -> Result<u64, StoreError>
         ensures size { tells self.old ≡ true
             → IfOk result (λ n. option_map length (file self.old name.now) ≡ Some n) }
-        ensures missing { tells self.old ≡ true → IsErrOf result StoreError.Missing
-            → file self.old name.now ≡ None }
-        ensures unknown { IsErrOf result StoreError.Missing → known self.old name.now ≡ false }
-        ensures known { OnOk result (known self.new name.now ≡ true) }
-        ensures stays { (n : List ℕ) → known self.old n ≡ true → known self.new n ≡ true }
         ensures same { tells self.old ≡ true
             → SameFiles (file self.old) (file self.new) (solid self.old) (solid self.new) }
         ensures time { tells self.old ≡ true
             → Elapses (moment self.old) (moment self.new) (left_since self.old)
             (left_since self.new) (file self.new) (solid self.new) }
+
+        // The name, what the store tells, and its faults.
+        ensures missing { Misses (tells self.old) (file self.old) (known self.old) name.now result }
+        ensures known { Learns name.now (known self.old) (known self.new) result }
         ensures told { tells self.new ≡ tells self.old }
         ensures cause { HasCause Failed (faults self.old) (faults self.new) result };
 
@@ -79,22 +73,90 @@ pub trait Store: Drop {
         ensures count { IfOk result (λ n. n ≤ length into.old) }
         ensures read { tells self.old ≡ true
             → IfOk result (λ n. ReadAt (file self.old name.now) place n into.old into.new) }
-        ensures missing { tells self.old ≡ true → IsErrOf result StoreError.Missing
-            → file self.old name.now ≡ None }
-        ensures unknown { IsErrOf result StoreError.Missing → known self.old name.now ≡ false }
-        ensures known { OnOk result (known self.new name.now ≡ true) }
-        ensures stays { (n : List ℕ) → known self.old n ≡ true → known self.new n ≡ true }
         ensures same { tells self.old ≡ true
             → SameFiles (file self.old) (file self.new) (solid self.old) (solid self.new) }
         ensures time { tells self.old ≡ true
             → Elapses (moment self.old) (moment self.new) (left_since self.old)
             (left_since self.new) (file self.new) (solid self.new) }
+
+        // The name, what the store tells, and its faults.
+        ensures missing { Misses (tells self.old) (file self.old) (known self.old) name.now result }
+        ensures known { Learns name.now (known self.old) (known self.new) result }
+        ensures told { tells self.new ≡ tells self.old }
+        ensures cause { HasCause Failed (faults self.old) (faults self.new) result };
+
+    /// Adds bytes at the end of the file, and makes one that isn't there. An error leaves a prefix
+    /// of them there, and is never `Missing`.
+    fn append(&mut self, alloc: Global, name: &str, bytes: &[u8]) -> Result<(), StoreError>
+        ensures appends { tells self.old ≡ true
+            → Appends name.now bytes.now (file self.old) (file self.new) (solid self.old)
+            (solid self.new) result }
+        ensures time { tells self.old ≡ true
+            → Elapses (moment self.old) (moment self.new) (left_since self.old)
+            (left_since self.new) (file self.new) (solid self.new) }
+
+        // The name, what the store tells, and its faults.
+        ensures present { result ≢ Err StoreError.Missing }
+        ensures known { Learns name.now (known self.old) (known self.new) result }
+        ensures told { tells self.new ≡ tells self.old }
+        ensures cause { HasCause Failed (faults self.old) (faults self.new) result };
+
+    /// Makes solid what a read gives of the file.
+    fn sync(&mut self, alloc: Global, name: &str) -> Result<(), StoreError>
+        ensures syncs { tells self.old ≡ true
+            → Syncs name.now (file self.old) (file self.new) (solid self.old) (solid self.new)
+            result }
+        ensures time { tells self.old ≡ true
+            → Elapses (moment self.old) (moment self.new) (left_since self.old)
+            (left_since self.new) (file self.new) (solid self.new) }
+
+        // The name, what the store tells, and its faults.
+        ensures missing { Misses (tells self.old) (file self.old) (known self.old) name.now result }
+        ensures known { Learns name.now (known self.old) (known self.new) result }
+        ensures told { tells self.new ≡ tells self.old }
+        ensures cause { HasCause Failed (faults self.old) (faults self.new) result };
+
+    /// Shortens the file to so many bytes, all of them solid. An error leaves it as it was.
+    fn cut(&mut self, alloc: Global, name: &str, size: u64) -> Result<(), StoreError>
+        requires { tells self.old ≡ true → size ≤ length (bytes_in (file self.old name.now)) }
+        ensures cuts { tells self.old ≡ true
+            → Cuts name.now size (file self.old) (file self.new) (solid self.old) (solid self.new)
+            result }
+        ensures time { tells self.old ≡ true
+            → Elapses (moment self.old) (moment self.new) (left_since self.old)
+            (left_since self.new) (file self.new) (solid self.new) }
+
+        // The name, what the store tells, and its faults.
+        ensures missing { Misses (tells self.old) (file self.old) (known self.old) name.now result }
+        ensures known { Learns name.now (known self.old) (known self.new) result }
+        ensures told { tells self.new ≡ tells self.old }
+        ensures cause { HasCause Failed (faults self.old) (faults self.new) result };
+
+    /// Moves a file, all of it solid, over another. An error leaves both as they were.
+    fn rename(&mut self, alloc: Global, from: &str, to: &str) -> Result<(), StoreError>
+        requires apart { from.now ≢ to.now }
+        requires durable { tells self.old ≡ true
+            → length (bytes_in (file self.old from.now)) ≤ solid self.old from.now }
+        ensures renames { tells self.old ≡ true
+            → Renames from.now to.now (file self.old) (file self.new) (solid self.old)
+            (solid self.new) result }
+        ensures time { tells self.old ≡ true
+            → Elapses (moment self.old) (moment self.new) (left_since self.old)
+            (left_since self.new) (file self.new) (solid self.new) }
+
+        // The names, what the store tells, and its faults.
+        ensures missing { Misses (tells self.old) (file self.old) (known self.old) from.now result }
+        ensures known { Relabels from.now to.now (known self.old) (known self.new) result }
         ensures told { tells self.new ≡ tells self.old }
         ensures cause { HasCause Failed (faults self.old) (faults self.new) result };
 
     /// A name that is known is there.
     ghost known_is_there: { (s : Self) (n : List ℕ)
         → tells s ≡ true → known s n ≡ true → IsSome (file s n) };
+
+    /// No more is solid than there is.
+    ghost solid_is_there: { (s : Self) (n : List ℕ)
+        → tells s ≡ true → solid s n ≤ length (bytes_in (file s n)) };
 
     /// Now is one of the moments since an earlier one.
     ghost counts_now: { (s : Self) (n : List ℕ) (t : ℕ) (c : List ℕ)
@@ -109,6 +171,22 @@ impl From<Memory> for StoreError {
     ghost from_gives = { λ _ error. error ≡ NoMemory };
 
     fn from(_: Memory) -> StoreError {
+        StoreError::Memory
+    }
+}
+
+impl From<AllocError> for StoreError {
+    ghost from_gives = { λ _ error. error ≡ NoMemory };
+
+    fn from(_: AllocError) -> StoreError {
+        StoreError::Memory
+    }
+}
+
+impl<T: Drop> From<AllocFailed<T>> for StoreError {
+    ghost from_gives = { λ _ error. error ≡ NoMemory };
+
+    fn from(_: AllocFailed<T>) -> StoreError {
         StoreError::Memory
     }
 }

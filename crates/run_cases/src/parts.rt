@@ -3,9 +3,8 @@ ghost use Rattle.std.specs.Prelude.{◌≡◌, All, IfOk, length};
 use crate::case::RunCase;
 use ad_value::Text;
 use cases::CaseError;
-use pool_outer::{
-    FailingSpawns, MemClock, MemFile, MemSink, MemSpawner, MemStore, Script, Spawner,
-};
+use pool_outer::{FailingSpawns, MemClock, MemSink, MemSpawner, Script, Spawner};
+use pool_store::{MemFile, MemStore};
 use std::alloc::Global;
 
 /// How many spawners a pool has.
@@ -40,7 +39,7 @@ fn files_of(alloc: Global, run: &RunCase<'_>) -> Result<Vec<MemFile>, CaseError>
 fn file_of(alloc: Global, run: &RunCase<'_>, name: &str, text: &str) -> Result<MemFile, CaseError> {
     let name = Text::from(String::from_str(alloc, name)?);
     let bytes = run.case.bytes(alloc, text)?;
-    Ok(MemFile { name, bytes })
+    Ok(MemFile::new(name, bytes))
 }
 
 /// A clock that gives the readings.

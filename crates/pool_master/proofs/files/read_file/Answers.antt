@@ -13,7 +13,7 @@ pieces-preserved g c =
       short = inv.short;
       room = λ tells. no_more _ c.extend_from_slice.new.self.items c.in_ok-size.size (inv.size tells) (front tells);
       same = λ tells n. let now = read.same (inv.told ∙ tells) n in let before = inv.same tells n in (now.0 ∙ before.0, now.1 ∙ before.1);
-      known = read.known;
+      known = read.known.learnt;
       told = read.told ∙ inv.told;
       quiet = read.cause.quiet refl ∙ inv.quiet;
     }

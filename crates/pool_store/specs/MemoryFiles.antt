@@ -1,22 +1,24 @@
 -- Files in memory.
 use Rattle.std.specs.Prelude.{◌≡◌, ℕ, List, length, take, drop, min, Option, Result, find, ok_or}
-use Rattle.std.specs.Option.{option_map}
+use Rattle.std.specs.Option.{option_map, option_map_or}
 use Rattle.std.specs.Str.{bytes_eq}
-use Rattle.pool_outer.specs.Files.{bytes_in}
 use Rattle.pool_outer.specs.declared.store.StoreError.{StoreError}
 use Rattle.pool_outer.specs.declared.store.StoreError.TheVariants.{Missing}
-use Rattle.pool_outer.specs.declared.store.memory.MemFile.{MemFile}
+use Rattle.pool_store.specs.declared.memory.file.MemFile.{MemFile}
 
--- what the first file of that name holds
+-- the first file of that name
+abbrev pub found_in : List MemFile → List ℕ → Option MemFile
+found_in files name = find (λ file. bytes_eq file.name name) files
+
+-- what it holds
 abbrev pub file_in : List MemFile → List ℕ → Option (List ℕ)
-file_in files name =
-    option_map (λ file. file.bytes.items) (find (λ file. bytes_eq file.name name) files)
+file_in files name = option_map (λ file. file.bytes.items) (found_in files name)
 
--- how many of its bytes a stop leaves: all
+-- how many of its first bytes a stop leaves for certain
 abbrev pub solid_in : List MemFile → List ℕ → ℕ
-solid_in files name = length (bytes_in (file_in files name))
+solid_in files name = option_map_or (λ file. file.solid) (found_in files name) 0
 
--- the size of the first file of that name
+-- its size
 abbrev pub size_in : List MemFile → List ℕ → Result ℕ StoreError
 size_in files name = ok_or (option_map length (file_in files name)) Missing
 

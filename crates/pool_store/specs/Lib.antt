@@ -1,0 +1,3 @@
+pub mod MemoryFiles
+pub mod Past
+pub mod MemoryParts

@@ -1,0 +1,236 @@
+//! Files of the system.
+ghost use Rattle.std.specs.Prelude.{◌≡◌, ◌≢◌, ◌≤◌, ◌<◌, ℕ, List, true, false, IfOk, MatchOption, length, vec_len, vec_capacity};
+ghost use Rattle.pool_outer.specs.Cause.{Rose};
+ghost use Rattle.pool_outer.specs.Files.{is_named};
+
+mod written;
+
+use ad_value::{Memory, Text};
+use pool_outer::{Store, StoreError, count_fault};
+use std::alloc::Global;
+use std::io::{ErrorKind, Read, Seek, SeekFrom};
+use std::rt::Files;
+use std::{fs, io};
+use written::{Written, append_to, cut_file, rename_file, sync_file};
+
+/// Files of the system, by their paths. It tells nothing of what they hold.
+///
+/// The file that was written last stays open. A name in a folder is durable after the first sync
+/// of the file since it was opened.
+#[derive(Drop)]
+pub struct DiskStore<R: Files + Drop> {
+    rt: R,
+    known: Vec<Text>,
+    last: Option<Written<R::File>>,
+    faults: u64,
+}
+
+impl<R: Files + Drop> DiskStore<R> {
+    pub fn new(alloc: Global, rt: R) -> DiskStore<R>
+        ensures faults { ⟦<DiskStore<R> as Store>⟧.faults result ≡ 0 }
+        ensures known { (name : List ℕ) → ⟦<DiskStore<R> as Store>⟧.known result name ≡ false }
+    {
+        DiskStore {
+            rt,
+            known: Vec::new(alloc),
+            last: None,
+            faults: 0,
+        }
+    }
+
+    fn knows(&self, name: &str) -> bool
+        ensures { result ≡ is_named self.now.known.items name.now }
+    {
+        self.known.iter().any(|known| known.as_str() == name)
+    }
+
+    // Room for a name that isn't known yet, and the name.
+    fn room_for(&mut self, alloc: Global, name: &str) -> Result<Option<Text>, Memory>
+        ensures room { IfOk result (λ new. MatchOption new
+            (is_named self.old.known.items name.now ≡ true)
+            (λ text. (text ≡ name.now) × (vec_len self.new.known < vec_capacity self.new.known))) }
+        ensures known { self.new.known.items ≡ self.old.known.items }
+        ensures faults { self.new.faults ≡ self.old.faults }
+    {
+        if self.knows(name) {
+            return Ok(None);
+        }
+        let text = Text::from_str(alloc, name)?;
+        self.known.reserve(1)?;
+        Ok(Some(text))
+    }
+
+    // From now on the file is known to be there.
+    #[tactic(auto, using(crate::proofs::Names::pushed_is_named))]
+    fn learn(&mut self, text: Text)
+        requires { vec_len self.old.known < vec_capacity self.old.known }
+        ensures known { is_named self.new.known.items text ≡ true }
+        ensures stays { (n : List ℕ)
+            → is_named self.old.known.items n ≡ true → is_named self.new.known.items n ≡ true }
+        ensures faults { self.new.faults ≡ self.old.faults }
+    {
+        self.known.push(text).unwrap();
+    }
+
+    // The file isn't known to be there any more.
+    fn forget(&mut self, name: &str)
+        ensures forgotten { is_named self.new.known.items name.now ≡ false }
+        ensures others { (n : List ℕ) → n ≢ name.now
+            → is_named self.new.known.items n ≡ is_named self.old.known.items n }
+        ensures faults { self.new.faults ≡ self.old.faults }
+    {
+        self.known.retain(|known| known.as_str() != name);
+    }
+
+    fn failure(&mut self, error: &io::Error) -> StoreError
+        ensures present { result ≢ StoreError.Missing }
+        ensures known { self.new.known ≡ self.old.known }
+        ensures later { self.old.faults ≤ self.new.faults }
+        ensures rose { result ≡ StoreError.Failed → Rose self.old.faults self.new.faults }
+    {
+        if error.kind() == ErrorKind::OutOfMemory {
+            return StoreError::Memory;
+        }
+        count_fault(&mut self.faults);
+        StoreError::Failed
+    }
+
+    // A known file that isn't there any more has failed.
+    fn refusal(&mut self, name: &str, error: &io::Error) -> StoreError
+        ensures missing { result ≡ StoreError.Missing
+            → is_named self.old.known.items name.now ≡ false }
+        ensures known { self.new.known ≡ self.old.known }
+        ensures later { self.old.faults ≤ self.new.faults }
+        ensures rose { result ≡ StoreError.Failed → Rose self.old.faults self.new.faults }
+    {
+        match error.kind() {
+            ErrorKind::NotFound if !self.knows(name) => StoreError::Missing,
+            _ => self.failure(error),
+        }
+    }
+}
+
+impl<R: Files + Drop> Store for DiskStore<R> {
+    ghost use Rattle.std.specs.Prelude.{false, None};
+    ghost use Rattle.pool_outer.specs.Files.{is_named};
+
+    ghost faults = { λ s. s.faults };
+
+    ghost known = { λ s name. is_named s.known.items name };
+
+    ghost tells = { λ _. false };
+
+    ghost file = { λ _ _. None };
+
+    ghost solid = { λ _ _. 0 };
+
+    ghost moment = { λ _. 0 };
+
+    ghost left_since = { λ _ _ _ _. Unit {0} };
+
+    ghost known_is_there = { λ s name tells known. Prim.cc };
+
+    ghost solid_is_there = { λ s name tells. Prim.cc };
+
+    ghost counts_now = { λ s name moment image tells earlier left. tt };
+
+    ghost only_now = { λ s name image tells left. Prim.cc };
+
+    fn size(&mut self, alloc: Global, name: &str) -> Result<u64, StoreError> {
+        let new = self.room_for(alloc, name)?;
+        match fs::metadata(&self.rt, name) {
+            Ok(data) => {
+                if let Some(text) = new {
+                    self.learn(text);
+                }
+                Ok(data.len())
+            }
+            Err(error) => Err(self.refusal(name, &error)),
+        }
+    }
+
+    fn read_at(
+        &mut self,
+        alloc: Global,
+        name: &str,
+        place: u64,
+        into: &mut [u8],
+    ) -> Result<usize, StoreError> {
+        let new = self.room_for(alloc, name)?;
+        match read_from(&self.rt, name, place, into) {
+            Ok(count) => {
+                if let Some(text) = new {
+                    self.learn(text);
+                }
+                Ok(count)
+            }
+            Err(error) => Err(self.refusal(name, &error)),
+        }
+    }
+
+    // A known file that isn't there any more isn't made anew.
+    fn append(&mut self, alloc: Global, name: &str, bytes: &[u8]) -> Result<(), StoreError> {
+        let new = self.room_for(alloc, name)?;
+        match append_to(&self.rt, alloc, &mut self.last, name, new.is_some(), bytes) {
+            Ok(()) => {
+                if let Some(text) = new {
+                    self.learn(text);
+                }
+                Ok(())
+            }
+            Err(error) => Err(self.failure(&error)),
+        }
+    }
+
+    fn sync(&mut self, alloc: Global, name: &str) -> Result<(), StoreError> {
+        let new = self.room_for(alloc, name)?;
+        match sync_file(&self.rt, alloc, &mut self.last, name) {
+            Ok(()) => {
+                if let Some(text) = new {
+                    self.learn(text);
+                }
+                Ok(())
+            }
+            Err(error) => Err(self.refusal(name, &error)),
+        }
+    }
+
+    fn cut(&mut self, alloc: Global, name: &str, size: u64) -> Result<(), StoreError> {
+        let new = self.room_for(alloc, name)?;
+        match cut_file(&self.rt, alloc, &mut self.last, name, size) {
+            Ok(()) => {
+                if let Some(text) = new {
+                    self.learn(text);
+                }
+                Ok(())
+            }
+            Err(error) => Err(self.refusal(name, &error)),
+        }
+    }
+
+    fn rename(&mut self, alloc: Global, from: &str, to: &str) -> Result<(), StoreError> {
+        let new = self.room_for(alloc, to)?;
+        self.last = None;
+        if let Err(error) = fs::metadata(&self.rt, from) {
+            return Err(self.refusal(from, &error));
+        }
+        match rename_file(&self.rt, from, to) {
+            Ok(()) => {
+                if let Some(text) = new {
+                    self.learn(text);
+                }
+                self.forget(from);
+                Ok(())
+            }
+            Err(error) => Err(self.failure(&error)),
+        }
+    }
+}
+
+fn read_from<R: Files>(rt: &R, name: &str, place: u64, into: &mut [u8]) -> io::Result<usize>
+    ensures { IfOk result (λ n. n ≤ length into.old) }
+{
+    let mut file = fs::open(rt, name)?;
+    file.seek(SeekFrom::Start(place))?;
+    file.read(into)
+}
