@@ -1,4 +1,5 @@
-//! Tests of the outside over real files, children, clocks and writers, and of what threads take.
+//! Tests of the outside over real files, children, clocks and writers, of files in memory at each
+//! stop, and of what threads take.
 #![tactic(auto)]
 
 #[cfg(test)]
@@ -8,6 +9,10 @@ mod sink;
 #[cfg(test)]
 mod spawner;
 #[cfg(test)]
+mod stopped;
+#[cfg(test)]
 mod store;
 #[cfg(test)]
 mod threads;
+#[cfg(test)]
+mod written;
