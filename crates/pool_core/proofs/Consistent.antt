@@ -15,14 +15,14 @@ use Rattle.pool_core.specs.declared.event.Event.TheVariants as event
 use Rattle.pool_core.specs.declared.job.Job.{Job}
 use Rattle.pool_core.specs.declared.job.Phase.{Phase}
 use Rattle.pool_core.specs.declared.job.Phase.TheVariants as phase
-use Rattle.pool_core.specs.declared.job.Run.{Run as SlotRun}
+use Rattle.pool_core.specs.declared.job.SlotRun.{SlotRun}
 use Rattle.pool_core.specs.declared.job.RunName.{RunName}
 use Rattle.pool_core.specs.declared.numbers.JobId.{JobId}
 use Rattle.pool_core.specs.declared.numbers.SlotId.{SlotId}
 use Rattle.pool_core.specs.declared.slot.SlotAd.{SlotAd}
 use Rattle.pool_core.specs.Numbers.{same_job, same_slot}
 use Rattle.pool_core.specs.PoolValue.{PoolValue, job_at, run_at, slot_at, has_started, is_idle, HasItsRun, IsConsistent}
-use Rattle.pool_core.specs.Reactions.{opening_pool, is_idle_job, run_in, run_of_job, is_judged, start_refusal, open_refusal, refusal, numbered_jobs, clusters_after, with_phase, without_run, phase_after, run_named, submitted, started, ended_with, changed, after}
+use Rattle.pool_core.specs.Reactions.{opening_pool, is_idle_job, run_in, run_of_job, is_judged, start_refusal, open_refusal, refusal, numbered_jobs, clusters_after, with_phase, without_run, phase_after, run_named, with_jobs, with_run, with_end_of, with_event, pool_after}
 use Rattle.pool_core.proofs.Steps.{same_job-true}
 use Rattle.pool_core.proofs.Tables.{weight, jobs_told, slots_told, no_others, value_at-append, value_at-append-some, value_at-new, value_at-old, once_new, in_phase, job_at-own, job_at-other, once_with_phase, length-with_phase, count-with_phase, job_at-none, same_slot-true, length-numbered, count-numbered, cluster-numbered, idle-numbered, once_numbered, run_at-without-other, run_at-without-none, run_at-without-own, once_without}
 
@@ -107,7 +107,7 @@ runs_there (Some j) run h = by_phase j.phase refl h
     by_phase (phase.Finished own end) is h = cc
 
 -- ---- Submit
-pub submit_consistent : (p : PoolValue) (ads : List Attributes) → IsConsistent p → length p.jobs + length ads ≤ 10000 → IsConsistent (submitted p ads)
+pub submit_consistent : (p : PoolValue) (ads : List Attributes) → IsConsistent p → length p.jobs + length ads ≤ 10000 → IsConsistent (with_jobs p ads)
 submit_consistent p ads is few = record {
   jobs_once = once_numbered (p.clusters + 1) 0 ads p.jobs is.jobs_once (λ id there. inl (omega (arith, is.numbered id there)));
   runs_once = is.runs_once;
@@ -163,7 +163,7 @@ numbered_on p job ph is id there = is.numbered id (by (job_at id p.jobs) refl th
     by (Some j) some there = refl
 
 -- ---- Start
-pub start_consistent : (p : PoolValue) (job : JobId) (slot : SlotId) (judged : Judgement) (reading : ℕ) → IsConsistent p → Startable p job slot judged reading → IsConsistent (started p job slot judged reading)
+pub start_consistent : (p : PoolValue) (job : JobId) (slot : SlotId) (judged : Judgement) (reading : ℕ) → IsConsistent p → Startable p job slot judged reading → IsConsistent (with_run p job slot judged reading)
 start_consistent p job slot judged reading is ok = record {
   jobs_once = once_with_phase job ph p.jobs is.jobs_once;
   runs_once = once_new slots_told slot run p.runs is.runs_once ok.free;
@@ -265,7 +265,7 @@ own_run_of p job run is r = by (run_at run.slot p.runs) refl its
     by None at h = absurd h
     by (Some s) at h = record { run_there = s; at_slot = at; its_job = h.0; its_number = h.1 }
 
-pub end_consistent : (p : PoolValue) (job : JobId) (end : End) (run : RunName) → IsConsistent p → Runs (job_at job p.jobs) run → IsConsistent (ended_with p job end (Some run))
+pub end_consistent : (p : PoolValue) (job : JobId) (end : End) (run : RunName) → IsConsistent p → Runs (job_at job p.jobs) run → IsConsistent (with_end_of p job end (Some run))
 end_consistent p job end run is r = record {
   jobs_once = once_with_phase job ph p.jobs is.jobs_once;
   runs_once = once_without run.slot p.runs is.runs_once;
@@ -349,16 +349,16 @@ pub some_run : (o : Option RunName) (job : JobId) → (if is_some o then None el
 some_run None job h = cc
 some_run (Some run) job h = (run, refl)
 
-pub changed_consistent : (p : PoolValue) (ev : Event) → IsConsistent p → open_refusal p ev ≡ None → IsConsistent (changed p ev)
+pub changed_consistent : (p : PoolValue) (ev : Event) → IsConsistent p → open_refusal p ev ≡ None → IsConsistent (with_event p ev)
 changed_consistent p (event.Submit jobs reading) is ok = submit_consistent p jobs is (few_enough (length p.jobs + length jobs) ok)
 changed_consistent p (event.Start job slot judged reading) is ok = start_consistent p job slot judged reading is (startable p job slot judged reading ok)
 changed_consistent p (event.Ended job end reading) is ok =
     let found = some_run (run_of_job (job_at job p.jobs)) job ok in
-    subst (λ o. IsConsistent (ended_with p job end o)) (sym found.1) (end_consistent p job end found.0 is (runs_there (job_at job p.jobs) found.0 found.1))
+    subst (λ o. IsConsistent (with_end_of p job end o)) (sym found.1) (end_consistent p job end found.0 is (runs_there (job_at job p.jobs) found.0 found.1))
 changed_consistent p (event.Close reading none) is ok = reclosed p p.latest true is
 
-pub after_consistent : (p : PoolValue) (ev : Event) → IsConsistent p → refusal p ev ≡ None → IsConsistent (after p ev)
-after_consistent p ev is ok = reclosed (changed p ev) (after p ev).latest (changed p ev).closed (changed_consistent p ev is (opened p ev ok))
+pub after_consistent : (p : PoolValue) (ev : Event) → IsConsistent p → refusal p ev ≡ None → IsConsistent (pool_after p ev)
+after_consistent p ev is ok = reclosed (with_event p ev) (pool_after p ev).latest (with_event p ev).closed (changed_consistent p ev is (opened p ev ok))
 
 pub opening_consistent : (slots : List SlotAd) → IsConsistent (opening_pool slots)
 opening_consistent slots = record {

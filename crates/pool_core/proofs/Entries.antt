@@ -4,7 +4,7 @@ use Rattle.std.specs.Map.{lookup, set_value, remove_entry}
 use Rattle.indexmap.specs.IndexMap.{insert_entry}
 use Rattle.pool_core.specs.declared.job.Job.{Job}
 use Rattle.pool_core.specs.declared.job.Phase.{Phase}
-use Rattle.pool_core.specs.declared.job.Run.{Run as SlotRun}
+use Rattle.pool_core.specs.declared.job.SlotRun.{SlotRun}
 use Rattle.pool_core.specs.declared.numbers.JobId.{JobId}
 use Rattle.pool_core.specs.declared.numbers.SlotId.{SlotId}
 use Rattle.pool_core.specs.Numbers.{same_job, same_slot}

@@ -2,10 +2,10 @@
 use Rattle.std.proofs.Common.{◌≡◌, subst, refl, List, [], ◌∷◌, ◌++◌}
 use Rattle.pool_core.specs.declared.history.Step.{Step}
 use Rattle.pool_core.specs.PoolValue.{PoolValue as Pool}
-use Rattle.pool_core.specs.Reactions.{after}
+use Rattle.pool_core.specs.Reactions.{pool_after}
 use Rattle.pool_core.specs.Histories.{Reacts, LeadsTo}
 
 pub leads_on : (p : Pool) (ss : List Step) (q : Pool) (s : Step) (r : Pool) → LeadsTo p ss q → Reacts q s.event s.kept r → LeadsTo p (ss ++ s ∷ []) r
 leads_on p [] q s r leads next =
-    subst (λ w. Reacts w s.event s.kept (after w s.event) × (r ≡ after w s.event)) leads (record { accepted = next.accepted; answer = next.answer; next = refl }, next.next)
-leads_on p (x ∷ ss) q s r leads next = (leads.0, leads_on (after p x.event) ss q s r leads.1 next)
+    subst (λ w. Reacts w s.event s.kept (pool_after w s.event) × (r ≡ pool_after w s.event)) leads (record { accepted = next.accepted; answer = next.answer; next = refl }, next.next)
+leads_on p (x ∷ ss) q s r leads next = (leads.0, leads_on (pool_after p x.event) ss q s r leads.1 next)

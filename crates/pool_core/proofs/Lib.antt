@@ -3,7 +3,9 @@ pub mod Consistent
 pub mod Entries
 pub mod Growing
 pub mod Moving
+pub mod Resting
 pub mod Same
 pub mod Showing
+pub mod Sound
 pub mod Steps
 pub mod Tables

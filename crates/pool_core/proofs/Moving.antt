@@ -15,23 +15,23 @@ use Rattle.pool_core.specs.declared.history.Step.{Step}
 use Rattle.pool_core.specs.declared.job.Job.{Job}
 use Rattle.pool_core.specs.declared.job.Phase.{Phase}
 use Rattle.pool_core.specs.declared.job.Phase.TheVariants as phase
-use Rattle.pool_core.specs.declared.job.Run.{Run as SlotRun}
+use Rattle.pool_core.specs.declared.job.SlotRun.{SlotRun}
 use Rattle.pool_core.specs.declared.job.RunName.{RunName}
 use Rattle.pool_core.specs.declared.numbers.JobId.{JobId}
 use Rattle.pool_core.specs.declared.numbers.SlotId.{SlotId}
 use Rattle.pool_core.specs.declared.slot.SlotAd.{SlotAd}
 use Rattle.pool_core.specs.Ads.{core_of}
-use Rattle.pool_core.specs.AbstractPool.{How, State, Idle, Under, Run, Said, AbstractPool, IsIn, SameMembers, SameView, SlotMark, IsSpentBy, IsDead, IsUsed, KeepsSpent, Stands, HasCore, set}
-use Rattle.pool_core.specs.AbstractStep.{AbstractStep, Time, Stop, IsOver, changed_entry, changed_job, made, Takes}
+use Rattle.pool_core.specs.AbstractPool.{How, State, Idle, Under, Run, EndReport, AbstractPool, IsIn, SameMembers, SameView, SlotMark, IsSpentBy, IsDead, IsUsed, KeepsSpent, Stands, HasCore, set}
+use Rattle.pool_core.specs.AbstractStep.{AbstractStep, Time, Stop, IsOver, entry_with_state, with_state, view_after, Takes}
 use Rattle.pool_core.specs.Events.{reading_of}
 use Rattle.pool_core.specs.Histories.{LeadsTo}
 use Rattle.pool_core.specs.Moving.{time_to, submit_steps, start_steps, end_step, stop_steps, end_steps, own_steps, steps_of, EachMoves}
 use Rattle.pool_core.specs.Numbers.{RunNo, same_job, same_run}
 use Rattle.pool_core.specs.PoolValue.{PoolValue, job_at, run_at, slot_at, IsConsistent}
-use Rattle.pool_core.specs.Reactions.{opening_pool, refusal, open_refusal, is_judged, run_of_job, numbered_jobs, with_phase, without_run, phase_after, run_named, ended_with, after}
+use Rattle.pool_core.specs.Reactions.{opening_pool, refusal, open_refusal, is_judged, run_of_job, numbered_jobs, with_phase, without_run, phase_after, run_named, with_end_of, pool_after}
 use Rattle.pool_core.specs.Safe.{Safe, RunsLeased}
 use Rattle.pool_core.specs.Sameness.{same_ad}
-use Rattle.pool_core.specs.View.{run_no, how_of, run_of, state_of, entry_of, said_of, mark_after, marks_after, view_of}
+use Rattle.pool_core.specs.View.{run_no, how_of, run_of, job_state, entry_of, report_of, mark_after, marks_after, view_of}
 use Rattle.pool_core.proofs.Consistent.{opened, Startable, startable, idle_there, runs_there, own_run_of, some_run, after_consistent, opening_consistent}
 use Rattle.pool_core.proofs.Same.{same_ad-true}
 use Rattle.pool_core.proofs.Steps.{both_true, same_job-true, changed_core, takes_safe}
@@ -69,7 +69,7 @@ submit_takes [] cluster proc jobs v w before has gets acked more same = record {
   ordered = same.ordered;
   runs = same.runs;
   marks = same.marks;
-  said = same.said;
+  reports = same.reports;
   slots = same.slots;
 }
 submit_takes (ad ∷ ads) cluster proc jobs v w before has gets acked more same =
@@ -84,7 +84,7 @@ submit_takes (ad ∷ ads) cluster proc jobs v w before has gets acked more same 
             (λ q. gets q ∙ ap (λ l. option_map entry_of (job_at q l)) (sym whole))
             acked_too
             (λ q. (λ h. (more q).0 (subst (λ l. IsIn q (map (λ e. e.0) l)) whole h), λ h. subst (λ l. IsIn q (map (λ e. e.0) l)) (sym whole) ((more q).1 h)))
-            (record { moment = same.moment; next = same.next; jobs = same.jobs; acked = same.acked; ordered = same.ordered; runs = same.runs; marks = same.marks; said = same.said; slots = same.slots }),
+            (record { moment = same.moment; next = same.next; jobs = same.jobs; acked = same.acked; ordered = same.ordered; runs = same.runs; marks = same.marks; reports = same.reports; slots = same.slots }),
       ),
     )
   where
@@ -124,14 +124,14 @@ submit_takes (ad ∷ ads) cluster proc jobs v w before has gets acked more same 
 
 -- ---- what a job's new phase changes
 -- the entries are those of the abstract pool with the job's state changed
-rephased : (p : PoolValue) (job : JobId) (ph : Phase) (q : JobId) → option_map entry_of (job_at q (with_phase job ph p.jobs)) ≡ (changed_job (view_of p) job (λ _. state_of ph)).jobs q
+rephased : (p : PoolValue) (job : JobId) (ph : Phase) (q : JobId) → option_map entry_of (job_at q (with_phase job ph p.jobs)) ≡ (with_state (view_of p) job (λ _. job_state ph)).jobs q
 rephased p job ph q = by (same_job q job) refl
   where
-    own : (o : Option Job) → option_map entry_of (option_map (in_phase ph) o) ≡ option_map (changed_entry (λ _. state_of ph)) (option_map entry_of o)
+    own : (o : Option Job) → option_map entry_of (option_map (in_phase ph) o) ≡ option_map (entry_with_state (λ _. job_state ph)) (option_map entry_of o)
     own None = refl
     own (Some j) = refl
 
-    by : (b : Bool) → same_job q job ≡ b → option_map entry_of (job_at q (with_phase job ph p.jobs)) ≡ (if b then option_map (changed_entry (λ _. state_of ph)) (option_map entry_of (job_at job p.jobs)) else option_map entry_of (job_at q p.jobs))
+    by : (b : Bool) → same_job q job ≡ b → option_map entry_of (job_at q (with_phase job ph p.jobs)) ≡ (if b then option_map (entry_with_state (λ _. job_state ph)) (option_map entry_of (job_at job p.jobs)) else option_map entry_of (job_at q p.jobs))
     by true is = ap (λ k. option_map entry_of (job_at k (with_phase job ph p.jobs))) (same_job-true q job is) ∙ ap (option_map entry_of) (job_at-own job ph p.jobs) ∙ own (job_at job p.jobs)
     by false is = ap (option_map entry_of) (job_at-other q job ph p.jobs (no_others jobs_told q job is))
 
@@ -140,7 +140,7 @@ same_acked : (job : JobId) (ph : Phase) (jobs : List (JobId × Job)) → SameMem
 same_acked job ph jobs = subst (SameMembers (map (λ e. e.0) jobs)) (sym (map-with_phase (λ e. e.0) job ph jobs (λ e. refl))) (same_members (map (λ e. e.0) jobs))
 
 -- a job's state
-stands_in : (p : PoolValue) (job : JobId) (j : Job) (state : State) → job_at job p.jobs ≡ Some j → state_of j.phase ≡ state → Stands (view_of p) job state
+stands_in : (p : PoolValue) (job : JobId) (j : Job) (state : State) → job_at job p.jobs ≡ Some j → job_state j.phase ≡ state → Stands (view_of p) job state
 stands_in p job j state there is = subst (λ o. IsSomeAnd (option_map entry_of o) (λ e. e.state ≡ state)) (sym there) is
 
 -- ---- marks
@@ -193,9 +193,9 @@ matched (Some j) (Some s) reading judged h =
     record { job = j; slot = s; job_there = refl; slot_there = refl; job_ad = same_ad-true judged.job j.ad both.0; slot_ad = same_ad-true judged.slot s.ad both.1 }
 
 start_takes : (p : PoolValue) (job : JobId) (slot : SlotId) (judged : Judgement) (reading : ℕ) → IsConsistent p → Startable p job slot judged reading
-    → Takes (record (view_of p) { moment = max p.latest reading }) (start_steps p job slot judged reading) (view_of (after p (event.Start job slot judged reading)))
+    → Takes (record (view_of p) { moment = max p.latest reading }) (start_steps p job slot judged reading) (view_of (pool_after p (event.Start job slot judged reading)))
 start_takes p job slot judged reading is ok = (
-  (stands_in p job idle.0 Idle idle.1 (ap state_of idle.2), omega arith),
+  (stands_in p job idle.0 Idle idle.1 (ap job_state idle.2), omega arith),
   (
     (
       record {
@@ -219,7 +219,7 @@ start_takes p job slot judged reading is ok = (
       ordered = same_members [];
       runs = subst (SameMembers (run_of (slot, new) ∷ map run_of p.runs)) (sym (runs_snoc p.runs)) (in_snoc (run_of (slot, new)) (map run_of p.runs));
       marks = λ q. refl;
-      said = subst (SameMembers (filter_map said_in p.jobs)) (sym (said_unchanged job (phase.Running run reading) idle.0 p.jobs idle.1 silent (λ q. refl))) (same_members (filter_map said_in p.jobs));
+      reports = subst (SameMembers (filter_map said_in p.jobs)) (sym (said_unchanged job (phase.Running run reading) idle.0 p.jobs idle.1 silent (λ q. refl))) (same_members (filter_map said_in p.jobs));
       slots = λ q. refl;
     },
   ),
@@ -238,7 +238,7 @@ start_takes p job slot judged reading is ok = (
     its = matched (job_at job p.jobs) (slot_at slot p.slots) reading judged ok.its_match
 
     silent : IsSilent idle.0.phase
-    silent q = ap (said_of q) idle.2
+    silent q = ap (report_of q) idle.2
 
     core : HasCore (view_of p) job (core_of judged.job)
     core = subst (λ o. IsSomeAnd (option_map entry_of o) (λ e. e.core ≡ core_of judged.job)) (sym its.job_there) (ap core_of (sym its.job_ad))
@@ -261,7 +261,7 @@ start_takes p job slot judged reading is ok = (
         cc
 
 -- ---- Ended
-abbrev record_said : RunNo → JobId → How → Said
+abbrev record_said : RunNo → JobId → How → EndReport
 record_said run job how = record { run = run; job = job; how = how }
 
 same_run-same : (a : RunNo) → same_run a a ≡ true
@@ -286,7 +286,7 @@ ending p job run is has =
 
 -- the pool once the run has stopped
 abbrev stopped : PoolValue → ℕ → SlotId → SlotRun → End → AbstractPool
-stopped p moment slot r end = made (record (view_of p) { moment = moment }) (Stop (run_of (slot, r)) (Some (how_of end)))
+stopped p moment slot r end = view_after (record (view_of p) { moment = moment }) (Stop (run_of (slot, r)) (Some (how_of end)))
 
 dead_after : (p : PoolValue) (moment : ℕ) (job : JobId) (run : RunName) (end : End) → IsConsistent p → (e : Ending p job run) → IsDead (stopped p moment run.slot e.run_is end) (run_no run)
 dead_after p moment job run end is e = (
@@ -310,14 +310,14 @@ dead_after p moment job run end is e = (
 the_said : (p : PoolValue) (job : JobId) (run : RunName) (how : How) (e : Ending p job run) → record_said (run_no run) job how ≡ record_said (run_of (run.slot, e.run_is)).run e.run_is.job how
 the_said p job run how e = ap (λ n. record_said (run_no (run_named run.slot n)) job how) (sym e.its_number) ∙ ap (λ q. record_said (run_of (run.slot, e.run_is)).run q how) (sym e.its_job)
 
-said_after : (run : RunName) (job : JobId) (end : End) → said_of job (phase_after run end) ≡ Some (record_said (run_no run) job (how_of end))
+said_after : (run : RunName) (job : JobId) (end : End) → report_of job (phase_after run end) ≡ Some (record_said (run_no run) job (how_of end))
 said_after run job (Exited code) = refl
 said_after run job (Signalled signal) = refl
 said_after run job NotStarted = refl
 
 -- after both steps it is the next pool
 same_after : (p : PoolValue) (reading : ℕ) (job : JobId) (run : RunName) (end : End) → IsConsistent p → (e : Ending p job run)
-    → SameView (changed_job (stopped p (max p.latest reading) run.slot e.run_is end) job (λ _. state_of (phase_after run end))) (view_of (record (ended_with p job end (Some run)) { latest = max p.latest reading }))
+    → SameView (with_state (stopped p (max p.latest reading) run.slot e.run_is end) job (λ _. job_state (phase_after run end))) (view_of (record (with_end_of p job end (Some run)) { latest = max p.latest reading }))
 same_after p reading job run end is e = record {
   moment = refl;
   next = refl;
@@ -326,24 +326,24 @@ same_after p reading job run end is e = record {
   ordered = same_members [];
   runs = subst (λ l. SameMembers l (map run_of (without_run run.slot p.runs))) (sym (stopped_runs run.slot e.run_is p.runs is.runs_once e.run_there)) (same_members (map run_of (without_run run.slot p.runs)));
   marks = λ q. refl;
-  said = subst (λ x. SameMembers (x ∷ filter_map said_in p.jobs) (filter_map said_in (with_phase job (phase_after run end) p.jobs))) (the_said p job run (how_of end) e)
-      (said_more job (phase_after run end) e.job_is (record_said (run_no run) job (how_of end)) p.jobs e.job_there (λ q. ap (said_of q) e.running) (said_after run job end));
+  reports = subst (λ x. SameMembers (x ∷ filter_map said_in p.jobs) (filter_map said_in (with_phase job (phase_after run end) p.jobs))) (the_said p job run (how_of end) e)
+      (said_more job (phase_after run end) e.job_is (record_said (run_no run) job (how_of end)) p.jobs e.job_there (λ q. ap (report_of q) e.running) (said_after run job end));
   slots = λ q. refl;
 }
 
 end_takes : (p : PoolValue) (job : JobId) (end : End) (reading : ℕ) (run : RunName) → IsConsistent p → (e : Ending p job run)
-    → Takes (record (view_of p) { moment = max p.latest reading }) (Stop (run_of (run.slot, e.run_is)) (Some (how_of end)) ∷ end_step job run end ∷ []) (view_of (record (ended_with p job end (Some run)) { latest = max p.latest reading }))
+    → Takes (record (view_of p) { moment = max p.latest reading }) (Stop (run_of (run.slot, e.run_is)) (Some (how_of end)) ∷ end_step job run end ∷ []) (view_of (record (with_end_of p job end (Some run)) { latest = max p.latest reading }))
 end_takes p job (Exited code) reading run is e = (
   run_in_runs run.slot e.run_is p.runs e.run_there,
   (
-    ((e.until, stands_in p job e.job_is (Under (run_no run) e.until) e.job_there (ap state_of e.running)), dead_after p (max p.latest reading) job run (Exited code) is e, inl (the_said p job run (how_of (Exited code)) e), tt),
+    ((e.until, stands_in p job e.job_is (Under (run_no run) e.until) e.job_there (ap job_state e.running)), dead_after p (max p.latest reading) job run (Exited code) is e, inl (the_said p job run (how_of (Exited code)) e), tt),
     same_after p reading job run (Exited code) is e,
   ),
 )
 end_takes p job (Signalled signal) reading run is e = (
   run_in_runs run.slot e.run_is p.runs e.run_there,
   (
-    ((e.until, stands_in p job e.job_is (Under (run_no run) e.until) e.job_there (ap state_of e.running)), dead_after p (max p.latest reading) job run (Signalled signal) is e, inl (the_said p job run (how_of (Signalled signal)) e), tt),
+    ((e.until, stands_in p job e.job_is (Under (run_no run) e.until) e.job_there (ap job_state e.running)), dead_after p (max p.latest reading) job run (Signalled signal) is e, inl (the_said p job run (how_of (Signalled signal)) e), tt),
     same_after p reading job run (Signalled signal) is e,
   ),
 )
@@ -354,13 +354,13 @@ end_takes p job NotStarted reading run is e = (
   where
     over : IsSomeAnd (option_map entry_of (job_at job p.jobs)) (λ x. IsOver (stopped p (max p.latest reading) run.slot e.run_is NotStarted) x.state)
     over = subst (λ o. IsSomeAnd (option_map entry_of o) (λ x. IsOver (stopped p (max p.latest reading) run.slot e.run_is NotStarted) x.state)) (sym e.job_there)
-        (subst (λ ph. IsOver (stopped p (max p.latest reading) run.slot e.run_is NotStarted) (state_of ph)) (sym e.running) (inl (dead_after p (max p.latest reading) job run NotStarted is e)))
+        (subst (λ ph. IsOver (stopped p (max p.latest reading) run.slot e.run_is NotStarted) (job_state ph)) (sym e.running) (inl (dead_after p (max p.latest reading) job run NotStarted is e)))
 
 -- ---- every event
 -- the steps of an accepted event, but for the time
-own_takes : (p : PoolValue) (ev : Event) → IsConsistent p → open_refusal p ev ≡ None → Takes (record (view_of p) { moment = max p.latest (reading_of ev) }) (own_steps p ev) (view_of (after p ev))
+own_takes : (p : PoolValue) (ev : Event) → IsConsistent p → open_refusal p ev ≡ None → Takes (record (view_of p) { moment = max p.latest (reading_of ev) }) (own_steps p ev) (view_of (pool_after p ev))
 own_takes p (event.Submit jobs reading) is ok =
-    submit_takes jobs (p.clusters + 1) 0 p.jobs (record (view_of p) { moment = max p.latest reading }) (view_of (after p (event.Submit jobs reading)))
+    submit_takes jobs (p.clusters + 1) 0 p.jobs (record (view_of p) { moment = max p.latest reading }) (view_of (pool_after p (event.Submit jobs reading)))
     (λ id there. inl (omega (arith, is.numbered id there)))
     (λ q. refl)
     (λ q. refl)
@@ -374,7 +374,7 @@ own_takes p (event.Submit jobs reading) is ok =
       ordered = same_members [];
       runs = same_members (map run_of p.runs);
       marks = λ q. refl;
-      said = subst (SameMembers (filter_map said_in p.jobs)) (sym (said_by_new (p.clusters + 1) 0 jobs)) (same_members (filter_map said_in p.jobs));
+      reports = subst (SameMembers (filter_map said_in p.jobs)) (sym (said_by_new (p.clusters + 1) 0 jobs)) (same_members (filter_map said_in p.jobs));
       slots = λ q. refl;
     })
   where
@@ -388,8 +388,8 @@ own_takes p (event.Start job slot judged reading) is ok = start_takes p job slot
 own_takes p (event.Ended job end reading) is ok =
     let found = some_run (run_of_job (job_at job p.jobs)) job ok in
     let e = ending p job found.0 is found.1 in
-    subst (λ o. Takes (record (view_of p) { moment = max p.latest reading }) (end_steps p job end o) (view_of (record (ended_with p job end o) { latest = max p.latest reading }))) (sym found.1)
-    (subst (λ o. Takes (record (view_of p) { moment = max p.latest reading }) (stop_steps found.0.slot end o ++ end_step job found.0 end ∷ []) (view_of (record (ended_with p job end (Some found.0)) { latest = max p.latest reading }))) (sym e.run_there)
+    subst (λ o. Takes (record (view_of p) { moment = max p.latest reading }) (end_steps p job end o) (view_of (record (with_end_of p job end o) { latest = max p.latest reading }))) (sym found.1)
+    (subst (λ o. Takes (record (view_of p) { moment = max p.latest reading }) (stop_steps found.0.slot end o ++ end_step job found.0 end ∷ []) (view_of (record (with_end_of p job end (Some found.0)) { latest = max p.latest reading }))) (sym e.run_there)
     (end_takes p job end reading found.0 is e))
 own_takes p (event.Close reading none) is ok = record {
   moment = refl;
@@ -399,15 +399,15 @@ own_takes p (event.Close reading none) is ok = record {
   ordered = same_members [];
   runs = same_members (map run_of p.runs);
   marks = λ q. refl;
-  said = same_members (filter_map said_in p.jobs);
+  reports = same_members (filter_map said_in p.jobs);
   slots = λ q. refl;
 }
 
-pub moves : (p : PoolValue) (ev : Event) → IsConsistent p → refusal p ev ≡ None → Takes (view_of p) (steps_of p ev) (view_of (after p ev))
-moves p ev is ok = timed (view_of p) (view_of (after p ev)) (reading_of ev) (own_steps p ev) (own_takes p ev is (opened p ev ok))
+pub moves : (p : PoolValue) (ev : Event) → IsConsistent p → refusal p ev ≡ None → Takes (view_of p) (steps_of p ev) (view_of (pool_after p ev))
+moves p ev is ok = timed (view_of p) (view_of (pool_after p ev)) (reading_of ev) (own_steps p ev) (own_takes p ev is (opened p ev ok))
 
 -- an opening pool has no job and no run
-opening_safe : (slots : List SlotAd) → Safe (view_of (opening_pool slots))
+pub opening_safe : (slots : List SlotAd) → Safe (view_of (opening_pool slots))
 opening_safe slots = record {
   matched = λ r there. absurd there;
   one_run_per_slot = λ r s there. absurd there;
@@ -420,8 +420,8 @@ each_moves : (p : PoolValue) (ss : List Step) (q : PoolValue) → IsConsistent p
 each_moves p [] q is safe leased leads = safe
 each_moves p (s ∷ ss) q is safe leased leads =
     let takes = moves p s.event is leads.0.accepted in
-    let next = takes_safe (view_of p) (steps_of p s.event) (view_of (after p s.event)) takes safe leased in
-    (safe, takes, each_moves (after p s.event) ss q (after_consistent p s.event is leads.0.accepted) next.0 next.1 leads.1)
+    let next = takes_safe (view_of p) (steps_of p s.event) (view_of (pool_after p s.event)) takes safe leased in
+    (safe, takes, each_moves (pool_after p s.event) ss q (after_consistent p s.event is leads.0.accepted) next.0 next.1 leads.1)
 
 pub history_moves : (slots : List SlotAd) (list : List Step) (p : PoolValue) → LeadsTo (opening_pool slots) list p → EachMoves (opening_pool slots) list
 history_moves slots list p leads = each_moves (opening_pool slots) list p (opening_consistent slots) (opening_safe slots) (λ r there. absurd there) leads

@@ -14,9 +14,9 @@ use Rattle.pool_core.specs.declared.job.RunName.{RunName}
 use Rattle.pool_core.specs.declared.numbers.JobId.{JobId}
 use Rattle.pool_core.specs.declared.slot.SlotAd.{SlotAd}
 use Rattle.pool_core.specs.Answers.{kept_of}
-use Rattle.pool_core.specs.Histories.{LeadsTo, Shows, submit_in, launch_in, end_in, readings, submits, launches, ends, is_close, ends_in_close}
+use Rattle.pool_core.specs.Histories.{LeadsTo, Shows, submission_in, launch_in, ending_in, readings_in, submissions_in, launches_in, endings_in, is_close, ends_in_close}
 use Rattle.pool_core.specs.PoolValue.{PoolValue, job_at, IsConsistent}
-use Rattle.pool_core.specs.Reactions.{opening_pool, refusal, open_refusal, run_of_job, answer_to, numbered_jobs, phase_after, ended_with, after}
+use Rattle.pool_core.specs.Reactions.{opening_pool, refusal, open_refusal, run_of_job, answer_to, numbered_jobs, phase_after, with_end_of, pool_after}
 use Rattle.pool_core.proofs.Consistent.{opened, open_before, runs_there, own_run_of, some_run, after_consistent, opening_consistent}
 use Rattle.pool_core.proofs.Tables.{map-with_phase, length-without}
 
@@ -25,13 +25,13 @@ ads_of jobs = map (λ e. e.1.ad) jobs
 
 -- what one more event submits, launches and ends
 abbrev one_submit : Event → List (List Attributes × ℕ)
-one_submit e = cons_option (submit_in e) []
+one_submit e = cons_option (submission_in e) []
 
 abbrev one_launch : PoolValue → Event → List Launch
 one_launch p e = cons_option (launch_in (kept_of (answer_to p e))) []
 
 abbrev one_end : Event → List End
-one_end e = cons_option (end_in e) []
+one_end e = cons_option (ending_in e) []
 
 -- an accepted event adds what it says to what the pool shows
 record Adds (p : PoolValue) (e : Event) (q : PoolValue) : Type 0 where
@@ -43,7 +43,7 @@ ads_numbered : (cluster proc : ℕ) (ads : List Attributes) → ads_of (numbered
 ads_numbered cluster proc [] = refl
 ads_numbered cluster proc (ad ∷ ads) = ap (λ l. ad ∷ l) (ads_numbered cluster (proc + 1) ads)
 
-ended_adds : (p : PoolValue) (job : JobId) (end : End) (reading : ℕ) (run : RunName) → IsConsistent p → run_of_job (job_at job p.jobs) ≡ Some run → Adds p (Ended job end reading) (ended_with p job end (Some run))
+ended_adds : (p : PoolValue) (job : JobId) (end : End) (reading : ℕ) (run : RunName) → IsConsistent p → run_of_job (job_at job p.jobs) ≡ Some run → Adds p (Ended job end reading) (with_end_of p job end (Some run))
 ended_adds p job end reading run is has =
     let own = own_run_of p job run is (runs_there (job_at job p.jobs) run has) in
     record {
@@ -52,7 +52,7 @@ ended_adds p job end reading run is has =
       ended = omega (arith, length-without run.slot own.run_there p.runs own.at_slot);
     }
 
-adds : (p : PoolValue) (e : Event) → IsConsistent p → open_refusal p e ≡ None → Adds p e (after p e)
+adds : (p : PoolValue) (e : Event) → IsConsistent p → open_refusal p e ≡ None → Adds p e (pool_after p e)
 adds p (Submit jobs reading) is ok = record {
   submitted = map-append (λ e. e.1.ad) p.jobs (numbered_jobs (p.clusters + 1) 0 jobs) ∙ ap (λ l. ads_of p.jobs ++ l) (ads_numbered (p.clusters + 1) 0 jobs ∙ sym (append-nil jobs));
   launched = omega arith;
@@ -66,7 +66,7 @@ adds p (Start job slot judged reading) is ok = record {
 adds p (Ended job end reading) is ok =
     let found = some_run (run_of_job (job_at job p.jobs)) job ok in
     let a = ended_adds p job end reading found.0 is found.1 in
-    let b = subst (λ o. Adds p (Ended job end reading) (ended_with p job end o)) (sym found.1) a in
+    let b = subst (λ o. Adds p (Ended job end reading) (with_end_of p job end o)) (sym found.1) a in
     record { submitted = b.submitted; launched = b.launched; ended = b.ended }
 adds p (Close reading none) is ok = record {
   submitted = sym (append-nil (ads_of p.jobs));
@@ -77,10 +77,10 @@ adds p (Close reading none) is ok = record {
 -- what q shows is what p shows and then what the history between them says
 record Goes (p : PoolValue) (list : List Step) (q : PoolValue) : Type 0 where
   slots : q.slots ≡ p.slots
-  latest : q.latest ≡ fold max p.latest (readings list)
-  submitted : ads_of q.jobs ≡ ads_of p.jobs ++ flat_map (λ s. s.0) (submits list)
-  launched : q.started ≡ p.started + length (launches list)
-  ended : length q.runs + length (ends list) + p.started ≡ length p.runs + q.started
+  latest : q.latest ≡ fold max p.latest (readings_in list)
+  submitted : ads_of q.jobs ≡ ads_of p.jobs ++ flat_map (λ s. s.0) (submissions_in list)
+  launched : q.started ≡ p.started + length (launches_in list)
+  ended : length q.runs + length (endings_in list) + p.started ≡ length p.runs + q.started
 
 flat_cons : (o : Option (List Attributes × ℕ)) (l : List (List Attributes × ℕ)) → flat_map (λ s. s.0) (cons_option o l) ≡ flat_map (λ s. s.0) (cons_option o []) ++ flat_map (λ s. s.0) l
 flat_cons None l = refl
@@ -91,12 +91,12 @@ length_cons None l = omega arith
 length_cons (Some x) l = omega arith
 
 -- no event changes the slots
-slots_kept : (p : PoolValue) (e : Event) → (after p e).slots ≡ p.slots
+pub slots_kept : (p : PoolValue) (e : Event) → (pool_after p e).slots ≡ p.slots
 slots_kept p (Submit jobs reading) = refl
 slots_kept p (Start job slot judged reading) = refl
 slots_kept p (Ended job end reading) = by (run_of_job (job_at job p.jobs))
   where
-    by : (o : Option RunName) → (ended_with p job end o).slots ≡ p.slots
+    by : (o : Option RunName) → (with_end_of p job end o).slots ≡ p.slots
     by None = refl
     by (Some run) = refl
 slots_kept p (Close reading none) = refl
@@ -111,31 +111,31 @@ goes p [] q is leads = record {
 }
 goes p (s ∷ ss) q is leads =
     let e = s.event in
-    let rest = goes (after p e) ss q (after_consistent p e is leads.0.accepted) leads.1 in
+    let rest = goes (pool_after p e) ss q (after_consistent p e is leads.0.accepted) leads.1 in
     let step = adds p e is (opened p e leads.0.accepted) in
     let kept : launch_in s.kept ≡ launch_in (kept_of (answer_to p e)) = ap launch_in leads.0.answer in
-    let launched : length (launches (s ∷ ss)) ≡ length (one_launch p e) + length (launches ss) = ap (λ o. length (cons_option o (launches ss))) kept ∙ length_cons (launch_in (kept_of (answer_to p e))) (launches ss) in
-    let ended : length (ends (s ∷ ss)) ≡ length (one_end e) + length (ends ss) = length_cons (end_in e) (ends ss) in
+    let launched : length (launches_in (s ∷ ss)) ≡ length (one_launch p e) + length (launches_in ss) = ap (λ o. length (cons_option o (launches_in ss))) kept ∙ length_cons (launch_in (kept_of (answer_to p e))) (launches_in ss) in
+    let ended : length (endings_in (s ∷ ss)) ≡ length (one_end e) + length (endings_in ss) = length_cons (ending_in e) (endings_in ss) in
     record {
       slots = rest.slots ∙ slots_kept p e;
       latest = rest.latest;
       submitted =
-          rest.submitted ∙ ap (λ l. l ++ flat_map (λ x. x.0) (submits ss)) step.submitted
-          ∙ append_assoc (ads_of p.jobs) (flat_map (λ x. x.0) (one_submit e)) (flat_map (λ x. x.0) (submits ss))
-          ∙ ap (λ l. ads_of p.jobs ++ l) (sym (flat_cons (submit_in e) (submits ss)));
+          rest.submitted ∙ ap (λ l. l ++ flat_map (λ x. x.0) (submissions_in ss)) step.submitted
+          ∙ append_assoc (ads_of p.jobs) (flat_map (λ x. x.0) (one_submit e)) (flat_map (λ x. x.0) (submissions_in ss))
+          ∙ ap (λ l. ads_of p.jobs ++ l) (sym (flat_cons (submission_in e) (submissions_in ss)));
       launched = omega (arith, rest.launched, step.launched, launched);
       ended = omega (arith, rest.ended, step.ended, ended);
     }
 
 -- an open pool is closed by a close alone
-closed_on : (p : PoolValue) (e : Event) → refusal p e ≡ None → (after p e).closed ≡ is_close e
+closed_on : (p : PoolValue) (e : Event) → refusal p e ≡ None → (pool_after p e).closed ≡ is_close e
 closed_on p e ok = by_event e (open_before p e ok)
   where
-    by : (job : JobId) (end : End) (o : Option RunName) → (ended_with p job end o).closed ≡ p.closed
+    by : (job : JobId) (end : End) (o : Option RunName) → (with_end_of p job end o).closed ≡ p.closed
     by job end None = refl
     by job end (Some run) = refl
 
-    by_event : (e : Event) → p.closed ≡ false → (after p e).closed ≡ is_close e
+    by_event : (e : Event) → p.closed ≡ false → (pool_after p e).closed ≡ is_close e
     by_event (Submit jobs reading) open_yet = open_yet
     by_event (Start job slot judged reading) open_yet = open_yet
     by_event (Ended job end reading) open_yet = by job end (run_of_job (job_at job p.jobs)) ∙ open_yet
@@ -144,7 +144,7 @@ closed_on p e ok = by_event e (open_before p e ok)
 closes : (p : PoolValue) (list : List Step) (q : PoolValue) → p.closed ≡ false → LeadsTo p list q → q.closed ≡ ends_in_close list
 closes p [] q open_yet leads = ap (λ w. w.closed) leads ∙ open_yet
 closes p (s ∷ []) q open_yet leads = ap (λ w. w.closed) leads.1 ∙ closed_on p s.event leads.0.accepted
-closes p (s ∷ t ∷ ss) q open_yet leads = closes (after p s.event) (t ∷ ss) q (open_before (after p s.event) t.event leads.1.0.accepted) leads.1
+closes p (s ∷ t ∷ ss) q open_yet leads = closes (pool_after p s.event) (t ∷ ss) q (open_before (pool_after p s.event) t.event leads.1.0.accepted) leads.1
 
 pub shows : (slots : List SlotAd) (list : List Step) (p : PoolValue) → LeadsTo (opening_pool slots) list p → Shows slots list p
 shows slots list p leads =

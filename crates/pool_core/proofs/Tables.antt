@@ -9,14 +9,14 @@ use Rattle.ad_tree.specs.Ad.{Attributes}
 use Rattle.pool_core.specs.declared.job.Job.{Job}
 use Rattle.pool_core.specs.declared.job.Phase.{Phase}
 use Rattle.pool_core.specs.declared.job.Phase.TheVariants as phase
-use Rattle.pool_core.specs.declared.job.Run.{Run as SlotRun}
+use Rattle.pool_core.specs.declared.job.SlotRun.{SlotRun}
 use Rattle.pool_core.specs.declared.numbers.JobId.{JobId}
 use Rattle.pool_core.specs.declared.numbers.SlotId.{SlotId}
 use Rattle.pool_core.specs.Numbers.{same_job, same_slot, same_run}
-use Rattle.pool_core.specs.AbstractPool.{Run, Said, IsIn, SameMembers}
+use Rattle.pool_core.specs.AbstractPool.{Run, EndReport, IsIn, SameMembers}
 use Rattle.pool_core.specs.PoolValue.{value_at, HasKeysOnce, job_at, run_at, has_started, is_idle}
 use Rattle.pool_core.specs.Reactions.{with_phase, without_run, numbered_jobs}
-use Rattle.pool_core.specs.View.{run_of, run_no, said_of}
+use Rattle.pool_core.specs.View.{run_of, run_no, report_of}
 use Rattle.pool_core.proofs.Steps.{both_true, same_job-true, same_job-same}
 
 -- ---- keys
@@ -404,12 +404,12 @@ stopped_runs slot r (x ∷ xs) once there = by (same_slot slot x.0) refl (stoppe
         ap (λ b. if b then run_of x ∷ rest_of else rest_of) its ∙ ap (λ l. run_of x ∷ l) (rest there)
 
 -- ---- what was said
-abbrev pub said_in : JobId × Job → Option Said
-said_in e = said_of e.0 e.1.phase
+abbrev pub said_in : JobId × Job → Option EndReport
+said_in e = report_of e.0 e.1.phase
 
 -- a phase that says nothing
 abbrev pub IsSilent : Phase → Type 0
-IsSilent ph = (q : JobId) → said_of q ph ≡ None
+IsSilent ph = (q : JobId) → report_of q ph ≡ None
 
 pub said_unchanged : (job : JobId) (ph : Phase) (j : Job) (jobs : List (JobId × Job)) → job_at job jobs ≡ Some j → IsSilent j.phase → IsSilent ph → filter_map said_in (with_phase job ph jobs) ≡ filter_map said_in jobs
 said_unchanged job ph j [] there before after = refl
@@ -420,7 +420,7 @@ said_unchanged job ph j (e ∷ es) there before after = by (same_job job e.0) (s
         → filter_map said_in (if b then (e.0, in_phase ph e.1) ∷ es else e ∷ with_phase job ph es) ≡ filter_map said_in (e ∷ es)
     by true rest there =
         let own : e.1 ≡ j = cc in
-        ap (λ o. cons_option o (filter_map said_in es)) (after e.0 ∙ sym (ap (λ k. said_of e.0 k.phase) own ∙ before e.0))
+        ap (λ o. cons_option o (filter_map said_in es)) (after e.0 ∙ sym (ap (λ k. report_of e.0 k.phase) own ∙ before e.0))
     by false rest there = ap (cons_option (said_in e)) (rest there before after)
 
 swapped : {A : Type 0} (s x : A) (xs ys : List A) → SameMembers (s ∷ xs) ys → SameMembers (s ∷ x ∷ xs) (x ∷ ys)
@@ -442,23 +442,23 @@ swapped s x xs ys same y = (there (same y).0, back (same y).1)
 pub same_members : {A : Type 0} (xs : List A) → SameMembers xs xs
 same_members xs x = (λ h. h, λ h. h)
 
-pub said_more : (job : JobId) (ph : Phase) (j : Job) (s : Said) (jobs : List (JobId × Job)) → job_at job jobs ≡ Some j → IsSilent j.phase → said_of job ph ≡ Some s
+pub said_more : (job : JobId) (ph : Phase) (j : Job) (s : EndReport) (jobs : List (JobId × Job)) → job_at job jobs ≡ Some j → IsSilent j.phase → report_of job ph ≡ Some s
     → SameMembers (s ∷ filter_map said_in jobs) (filter_map said_in (with_phase job ph jobs))
 said_more job ph j s [] there before says = absurd (none_is_not j (sym there))
 said_more job ph j s (e ∷ es) there before says = by (same_job job e.0) refl (said_more job ph j s es) there
   where
-    by_option : (o : Option Said) → SameMembers (s ∷ filter_map said_in es) (filter_map said_in (with_phase job ph es)) → SameMembers (s ∷ cons_option o (filter_map said_in es)) (cons_option o (filter_map said_in (with_phase job ph es)))
+    by_option : (o : Option EndReport) → SameMembers (s ∷ filter_map said_in es) (filter_map said_in (with_phase job ph es)) → SameMembers (s ∷ cons_option o (filter_map said_in es)) (cons_option o (filter_map said_in (with_phase job ph es)))
     by_option None same = same
     by_option (Some x) same = swapped s x (filter_map said_in es) (filter_map said_in (with_phase job ph es)) same
 
     by : (b : Bool) → same_job job e.0 ≡ b
-        → (job_at job es ≡ Some j → IsSilent j.phase → said_of job ph ≡ Some s → SameMembers (s ∷ filter_map said_in es) (filter_map said_in (with_phase job ph es)))
+        → (job_at job es ≡ Some j → IsSilent j.phase → report_of job ph ≡ Some s → SameMembers (s ∷ filter_map said_in es) (filter_map said_in (with_phase job ph es)))
         → (if b then Some e.1 else job_at job es) ≡ Some j
         → SameMembers (s ∷ filter_map said_in (e ∷ es)) (filter_map said_in (if b then (e.0, in_phase ph e.1) ∷ es else e ∷ with_phase job ph es))
     by true is rest there =
         let own : e.1 ≡ j = cc in
-        let old : said_in e ≡ None = ap (λ k. said_of e.0 k.phase) own ∙ before e.0 in
-        let new : said_of e.0 ph ≡ Some s = ap (λ q. said_of q ph) (sym (same_job-true job e.0 is)) ∙ says in
+        let old : said_in e ≡ None = ap (λ k. report_of e.0 k.phase) own ∙ before e.0 in
+        let new : report_of e.0 ph ≡ Some s = ap (λ q. report_of q ph) (sym (same_job-true job e.0 is)) ∙ says in
         let same : s ∷ filter_map said_in (e ∷ es) ≡ filter_map said_in ((e.0, in_phase ph e.1) ∷ es) = ap (λ o. s ∷ cons_option o (filter_map said_in es)) old ∙ sym (ap (λ o. cons_option o (filter_map said_in es)) new) in
         subst (SameMembers (s ∷ filter_map said_in (e ∷ es))) same (same_members (s ∷ filter_map said_in (e ∷ es)))
     by false is rest there = by_option (said_in e) (rest there before says)

@@ -1,7 +1,9 @@
 -- The abstract pool: what a pool promises of its jobs and runs, without messages, logs or pending
 -- work.
 use Rattle.std.specs.Prelude.{◌≡◌, ◌≢◌, ◌⊎◌, ◌↔◌, ℕ, ℤ, ◌<◌, ◌≤◌, List, [], ◌∷◌, Option, IsSomeAnd, Bool, if◌then◌else◌}
-use Rattle.pool_core.specs.Ads.{Core, SlotAd, Judged}
+use Rattle.ad_tree.specs.Ad.{Attributes}
+use Rattle.ad_eval.specs.Judgement.{Judgement}
+use Rattle.pool_core.specs.Ads.{Core}
 use Rattle.pool_core.specs.Numbers.{JobId, SlotId, ClaimNo, RunNo}
 
 -- how a run ended (HTCondor manual, Job Event Log Codes: 005, job terminated; 004, job evicted from
@@ -37,10 +39,10 @@ pub record Run : Type 0 where
   pub run : RunNo
   pub job : JobId
   pub until : ℕ
-  pub judged : Judged
+  pub judged : Judgement
 
--- what a slot's machine said of a run's end
-pub record Said : Type 0 where
+-- how a run ended, by its slot's machine
+pub record EndReport : Type 0 where
   pub run : RunNo
   pub job : JobId
   pub how : How
@@ -69,8 +71,8 @@ pub record AbstractPool : Type 0 where
   pub ordered : List JobId  -- those that were ordered to be removed
   pub runs : List Run
   pub marks : Marks
-  pub said : List Said
-  pub slots : SlotId → Option SlotAd
+  pub reports : List EndReport  -- of the runs that have ended
+  pub slots : SlotId → Option Attributes
 
 abbrev pub IsIn : {A : Type 0} → A → List A → Type 0
 IsIn x [] = ⊥
@@ -92,7 +94,7 @@ pub record SameView (v w : AbstractPool) : Type 0 where
   pub ordered : SameMembers v.ordered w.ordered
   pub runs : SameMembers v.runs w.runs
   pub marks : (slot : SlotId) → w.marks slot ≡ v.marks slot
-  pub said : SameMembers v.said w.said
+  pub reports : SameMembers v.reports w.reports
   pub slots : (slot : SlotId) → w.slots slot ≡ v.slots slot
 
 abbrev pub IsUsed : Option HeldClaim → RunNo → Type 0

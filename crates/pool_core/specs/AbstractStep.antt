@@ -1,8 +1,8 @@
 -- What may happen in an abstract pool, step by step.
 use Rattle.std.specs.Prelude.{◌≡◌, ◌≢◌, ◌⊎◌, ℕ, ◌+◌, ◌≤◌, List, [], ◌∷◌, Option, Some, None, IsSome, IsSomeAnd, option_map, not, max, map, filter, if◌then◌else◌}
-use Rattle.pool_core.specs.Ads.{Core, IsMatch, core_of, job_of, slot_of}
+use Rattle.pool_core.specs.Ads.{Core, IsMatch, core_of}
 use Rattle.pool_core.specs.Numbers.{JobId, RunNo, same_job, same_run}
-use Rattle.pool_core.specs.AbstractPool.{How, Exited, Signalled, NotStarted, Evicted, Stopped, Outcome, EndedBy, Removed, State, Idle, Held, Under, Left, Done, Entry, Run, Said, Marks, AbstractPool, IsIn, set, SameView, IsSpent, IsSpentBy, IsDead, KeepsSpent, Stands, HasCore}
+use Rattle.pool_core.specs.AbstractPool.{How, Exited, Signalled, NotStarted, Evicted, Stopped, Outcome, EndedBy, Removed, State, Idle, Held, Under, Left, Done, Entry, Run, EndReport, Marks, AbstractPool, IsIn, set, SameView, IsSpent, IsSpentBy, IsDead, KeepsSpent, Stands, HasCore}
 
 pub data AbstractStep : Type 0 where
   -- the moment grows
@@ -67,14 +67,14 @@ pub record MayStart (v : AbstractPool) (r : Run) : Type 0 where
   pub claimed : r.slot ≡ r.run.claim.slot
   pub free : (s : Run) → IsIn s v.runs → s.slot ≢ r.slot
   pub leased : IsLeased v r.job r.run r.until
-  pub slot_ad : v.slots r.slot ≡ Some (slot_of r.judged)
-  pub job_ad : HasCore v r.job (core_of (job_of r.judged))
+  pub slot_ad : v.slots r.slot ≡ Some r.judged.slot
+  pub job_ad : HasCore v r.job (core_of r.judged.job)
   pub match : IsMatch r.judged
 
 -- when a job may leave the queue
 abbrev pub MayFinish : AbstractPool → JobId → Outcome → Type 0
 MayFinish v job (EndedBy run how) = ((end : ℕ) × Stands v job (Under run end)) × IsDead v run
-    × IsIn (record { run = run; job = job; how = how }) v.said × IsEnding how
+    × IsIn (record { run = run; job = job; how = how }) v.reports × IsEnding how
 MayFinish v job Removed = IsIn job v.ordered
     × IsSomeAnd (v.jobs job) (λ e. IsWaiting e.state ⊎ IsOver v e.state)
 
@@ -96,55 +96,59 @@ Allowed v (Release job) = Stands v job Held
 Allowed v (Lengthen job end) = (run : RunNo) × (old : ℕ) × Stands v job (Under run old)
     × (old ≤ end)
 
-abbrev pub changed_entry : (State → State) → Entry → Entry
-changed_entry change e = record e { state = change e.state }
+abbrev pub entry_with_state : (State → State) → Entry → Entry
+entry_with_state change e = record e { state = change e.state }
 
 -- the pool with one job's state changed
-abbrev pub changed_job : AbstractPool → JobId → (State → State) → AbstractPool
-changed_job v job change =
-    record v { jobs = set same_job v.jobs job (option_map (changed_entry change) (v.jobs job)) }
+abbrev pub with_state : AbstractPool → JobId → (State → State) → AbstractPool
+with_state v job change =
+    record v { jobs = set same_job v.jobs job (option_map (entry_with_state change) (v.jobs job)) }
 
-abbrev pub lengthened : ℕ → State → State
-lengthened end (Under run old) = Under run end
-lengthened end Idle = Idle
-lengthened end Held = Held
-lengthened end Left = Left
-lengthened end (Done outcome) = Done outcome
+abbrev pub with_lease_end : ℕ → State → State
+with_lease_end end (Under run old) = Under run end
+with_lease_end end Idle = Idle
+with_lease_end end Held = Held
+with_lease_end end Left = Left
+with_lease_end end (Done outcome) = Done outcome
 
 -- the run with an end of its lease that is at least that
-abbrev pub extended : RunNo → ℕ → Run → Run
-extended run until r = if same_run r.run run then record r { until = max r.until until } else r
+abbrev pub with_until : RunNo → ℕ → Run → Run
+with_until run until r = if same_run r.run run then record r { until = max r.until until } else r
 
-abbrev pub said_too : Option How → Run → List Said → List Said
-said_too None r said = said
-said_too (Some how) r said = record { run = r.run; job = r.job; how = how } ∷ said
+abbrev pub reports_with : Option How → Run → List EndReport → List EndReport
+reports_with None r reports = reports
+reports_with (Some how) r reports = record { run = r.run; job = r.job; how = how } ∷ reports
 
 -- the pool after a step
-abbrev pub made : AbstractPool → AbstractStep → AbstractPool
-made v (Time moment) = record v { moment = moment }
-made v (Queue job core) =
+abbrev pub view_after : AbstractPool → AbstractStep → AbstractPool
+view_after v (Time moment) = record v { moment = moment }
+view_after v (Queue job core) =
     record v { jobs = set same_job v.jobs job (Some (record { core = core; state = Idle })) }
-made v (Acknowledge job) = record v { acked = job ∷ v.acked }
-made v (Order job) = record v { ordered = job ∷ v.ordered }
-made v (Grant job run end) = record (changed_job v job (λ _. Under run end)) { next = v.next + 1 }
-made v (Start r marks) = record v { runs = r ∷ v.runs; marks = marks }
-made v (Mark marks) = record v { marks = marks }
-made v (Extend r until) = record v { runs = map (extended r.run until) v.runs }
-made v (Stop r how) = record v {
+view_after v (Acknowledge job) = record v { acked = job ∷ v.acked }
+view_after v (Order job) = record v { ordered = job ∷ v.ordered }
+view_after v (Grant job run end) =
+    record (with_state v job (λ _. Under run end)) { next = v.next + 1 }
+view_after v (Start r marks) = record v { runs = r ∷ v.runs; marks = marks }
+view_after v (Mark marks) = record v { marks = marks }
+view_after v (Extend r until) = record v { runs = map (with_until r.run until) v.runs }
+view_after v (Stop r how) = record v {
   runs = filter (λ s. not (same_run s.run r.run)) v.runs;
-  said
-      = said_too how r v.said;
+  reports = reports_with how r v.reports;
 }
-made v (Free job state) = changed_job v job (λ _. state)
-made v (Finish job outcome) = changed_job v job (λ _. Done outcome)
-made v (Hold job) = changed_job v job (λ _. Held)
-made v (Release job) = changed_job v job (λ _. Idle)
-made v (Lengthen job end) = changed_job v job (lengthened end)
+view_after v (Free job state) = with_state v job (λ _. state)
+view_after v (Finish job outcome) = with_state v job (λ _. Done outcome)
+view_after v (Hold job) = with_state v job (λ _. Held)
+view_after v (Release job) = with_state v job (λ _. Idle)
+view_after v (Lengthen job end) = with_state v job (with_lease_end end)
+
+-- every step that is allowed leads from a pool to another so
+abbrev pub Leads : (AbstractPool → AbstractPool → Type 0) → Type 0
+Leads P = (v : AbstractPool) (k : AbstractStep) → Allowed v k → P v (view_after v k)
 
 -- the steps lead from one pool to another, one after the other
 abbrev pub Takes : AbstractPool → List AbstractStep → AbstractPool → Type 0
 Takes v [] w = SameView v w
-Takes v (k ∷ ks) w = Allowed v k × Takes (made v k) ks w
+Takes v (k ∷ ks) w = Allowed v k × Takes (view_after v k) ks w
 
 -- some steps do
 abbrev pub Moves : AbstractPool → AbstractPool → Type 0

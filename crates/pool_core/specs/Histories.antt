@@ -14,18 +14,19 @@ use Rattle.pool_core.specs.declared.slot.SlotAd.{SlotAd}
 use Rattle.pool_core.specs.Answers.{kept_of}
 use Rattle.pool_core.specs.Events.{reading_of}
 use Rattle.pool_core.specs.PoolValue.{PoolValue}
-use Rattle.pool_core.specs.Reactions.{opening_pool, refusal, answer_to, after}
+use Rattle.pool_core.specs.Reactions.{opening_pool, refusal, answer_to, pool_after}
 
 -- the event takes the pool p to q, with that answer
 pub record Reacts (p : PoolValue) (ev : Event) (kept : Kept) (q : PoolValue) : Type 0 where
   pub accepted : refusal p ev ≡ None
   pub answer : kept ≡ kept_of (answer_to p ev)
-  pub next : q ≡ after p ev
+  pub next : q ≡ pool_after p ev
 
 -- accepted events with their answers lead from the pool p to q, one after the other
 abbrev pub LeadsTo : PoolValue → List Step → PoolValue → Type 0
 LeadsTo p [] q = q ≡ p
-LeadsTo p (s ∷ ss) q = Reacts p s.event s.kept (after p s.event) × LeadsTo (after p s.event) ss q
+LeadsTo p (s ∷ ss) q = Reacts p s.event s.kept (pool_after p s.event)
+    × LeadsTo (pool_after p s.event) ss q
 
 -- the history of a pool of these slots, which leads from its opening to the pool
 pub record IsHistory (slots : List SlotAd) (history : History) (p : PoolValue) : Type 0 where
@@ -33,21 +34,21 @@ pub record IsHistory (slots : List SlotAd) (history : History) (p : PoolValue) :
   pub no_load : history.load ≡ false
   pub leads : LeadsTo (opening_pool slots) history.list p
 
-abbrev pub submit_in : Event → Option (List Attributes × ℕ)
-submit_in (Submit jobs reading) = Some (jobs, reading)
-submit_in (Start job slot judged reading) = None
-submit_in (Ended job end reading) = None
-submit_in (Close reading none) = None
+abbrev pub submission_in : Event → Option (List Attributes × ℕ)
+submission_in (Submit jobs reading) = Some (jobs, reading)
+submission_in (Start job slot judged reading) = None
+submission_in (Ended job end reading) = None
+submission_in (Close reading none) = None
 
 abbrev pub launch_in : Kept → Option Launch
 launch_in kept.Done = None
 launch_in (kept.Launch what) = Some what
 
-abbrev pub end_in : Event → Option End
-end_in (Submit jobs reading) = None
-end_in (Start job slot judged reading) = None
-end_in (Ended job end reading) = Some end
-end_in (Close reading none) = None
+abbrev pub ending_in : Event → Option End
+ending_in (Submit jobs reading) = None
+ending_in (Start job slot judged reading) = None
+ending_in (Ended job end reading) = Some end
+ending_in (Close reading none) = None
 
 abbrev pub is_close : Event → Bool
 is_close (Submit jobs reading) = false
@@ -62,25 +63,25 @@ ends_in_close (s ∷ t ∷ ss) = ends_in_close (t ∷ ss)
 
 -- what a history says, in order: its readings, the ads that were submitted with the readings at
 -- which they were, the launches that it answered, and the ends of runs
-abbrev pub readings : List Step → List ℕ
-readings list = map (λ s. reading_of s.event) list
+abbrev pub readings_in : List Step → List ℕ
+readings_in list = map (λ s. reading_of s.event) list
 
-abbrev pub submits : List Step → List (List Attributes × ℕ)
-submits list = filter_map (λ s. submit_in s.event) list
+abbrev pub submissions_in : List Step → List (List Attributes × ℕ)
+submissions_in list = filter_map (λ s. submission_in s.event) list
 
-abbrev pub launches : List Step → List Launch
-launches list = filter_map (λ s. launch_in s.kept) list
+abbrev pub launches_in : List Step → List Launch
+launches_in list = filter_map (λ s. launch_in s.kept) list
 
-abbrev pub ends : List Step → List End
-ends list = filter_map (λ s. end_in s.event) list
+abbrev pub endings_in : List Step → List End
+endings_in list = filter_map (λ s. ending_in s.event) list
 
 -- The pool shows what its history says: its slots, the greatest reading, the jobs in the order of
 -- their submission, how many runs were launched and how many of them have ended, and whether the
 -- history has come to its close.
 pub record Shows (slots : List SlotAd) (list : List Step) (p : PoolValue) : Type 0 where
   pub slots_are : p.slots ≡ slots
-  pub latest : p.latest ≡ fold max 0 (readings list)
-  pub submitted : map (λ e. e.1.ad) p.jobs ≡ flat_map (λ s. s.0) (submits list)
-  pub launched : p.started ≡ length (launches list)
-  pub ended : length (ends list) + length p.runs ≡ p.started
+  pub latest : p.latest ≡ fold max 0 (readings_in list)
+  pub submitted : map (λ e. e.1.ad) p.jobs ≡ flat_map (λ s. s.0) (submissions_in list)
+  pub launched : p.started ≡ length (launches_in list)
+  pub ended : length (endings_in list) + length p.runs ≡ p.started
   pub closed : p.closed ≡ ends_in_close list

@@ -7,9 +7,11 @@ pub mod Answers
 pub mod Events
 pub mod Sameness
 pub mod PoolValue
-pub mod Reading
+pub mod Jobs
 pub mod Reactions
 pub mod Histories
 pub mod CourseValue
 pub mod View
+pub mod Sound
+pub mod Resting
 pub mod Moving

@@ -6,7 +6,7 @@ use Rattle.pool_core.specs.declared.event.Event.{Event}
 use Rattle.pool_core.specs.declared.event.Event.TheVariants as event
 use Rattle.pool_core.specs.declared.history.Step.{Step}
 use Rattle.pool_core.specs.declared.job.Job.{Job}
-use Rattle.pool_core.specs.declared.job.Run.{Run as SlotRun}
+use Rattle.pool_core.specs.declared.job.SlotRun.{SlotRun}
 use Rattle.pool_core.specs.declared.job.RunName.{RunName}
 use Rattle.pool_core.specs.declared.numbers.JobId.{JobId}
 use Rattle.pool_core.specs.declared.numbers.SlotId.{SlotId}
@@ -16,7 +16,7 @@ use Rattle.pool_core.specs.AbstractPool.{Held, EndedBy}
 use Rattle.pool_core.specs.AbstractStep.{AbstractStep, Time, Queue, Acknowledge, Grant, Start, Stop, Free, Finish, Takes}
 use Rattle.pool_core.specs.Events.{reading_of}
 use Rattle.pool_core.specs.PoolValue.{PoolValue, job_at, run_at}
-use Rattle.pool_core.specs.Reactions.{numbered_jobs, run_named, run_of_job, after}
+use Rattle.pool_core.specs.Reactions.{numbered_jobs, run_named, run_of_job, pool_after}
 use Rattle.pool_core.specs.Safe.{Safe}
 use Rattle.pool_core.specs.View.{run_no, how_of, run_of, marks_after, view_of}
 
@@ -37,8 +37,7 @@ start_steps p job slot judged reading =
         job = job;
         number = p.started + 1;
         judged = judged;
-        until
-            = reading;
+        until = reading;
       },
     )) (marks_after p.slots (p.started + 1))
     ∷ []
@@ -73,5 +72,5 @@ steps_of p ev = time_to p.latest (reading_of ev) ++ own_steps p ev
 abbrev pub EachMoves : PoolValue → List Step → Type 0
 EachMoves p [] = Safe (view_of p)
 EachMoves p (s ∷ ss) = Safe (view_of p)
-    × Takes (view_of p) (steps_of p s.event) (view_of (after p s.event))
-    × EachMoves (after p s.event) ss
+    × Takes (view_of p) (steps_of p s.event) (view_of (pool_after p s.event))
+    × EachMoves (pool_after p s.event) ss

@@ -3,23 +3,24 @@ use Rattle.std.specs.Prelude.{◌≡◌, ℕ, ◌≤◌, Bool, true, false, List
 use Rattle.pool_core.specs.declared.numbers.JobId.{JobId}
 use Rattle.pool_core.specs.declared.numbers.SlotId.{SlotId}
 use Rattle.pool_core.specs.declared.job.Job.{Job}
+use Rattle.pool_core.specs.declared.job.TheConstants.{MAX_JOBS}
 use Rattle.pool_core.specs.declared.job.Phase.{Phase}
 use Rattle.pool_core.specs.declared.job.Phase.TheVariants.{Idle, Running, Held, Finished}
-use Rattle.pool_core.specs.declared.job.Run.{Run}
+use Rattle.pool_core.specs.declared.job.SlotRun.{SlotRun}
 use Rattle.pool_core.specs.declared.slot.SlotAd.{SlotAd}
 use Rattle.pool_core.specs.Numbers.{same_job, same_slot}
 
 pub record PoolValue : Type 0 where
   pub slots : List SlotAd
   pub jobs : List (JobId × Job)  -- in the order in which they were submitted
-  pub runs : List (SlotId × Run)  -- of the slots that have one
+  pub runs : List (SlotId × SlotRun)  -- of the slots that have one
   pub clusters : ℕ  -- how many submissions had jobs
   pub started : ℕ  -- how many runs were started
   pub latest : ℕ  -- the greatest reading, 0 at first
   pub closed : Bool
 
-abbrev pub pool_value : List SlotAd → List (JobId × Job) → List (SlotId × Run) → ℕ → ℕ → ℕ → Bool
-    → PoolValue
+abbrev pub pool_value : List SlotAd → List (JobId × Job) → List (SlotId × SlotRun) → ℕ → ℕ → ℕ
+    → Bool → PoolValue
 pool_value slots jobs runs clusters started latest closed = record {
   slots = slots;
   jobs = jobs;
@@ -44,13 +45,18 @@ HasKeysOnce same (e ∷ es) = (value_at same e.0 es ≡ None) × HasKeysOnce sam
 abbrev pub job_at : JobId → List (JobId × Job) → Option Job
 job_at job jobs = value_at same_job job jobs
 
-abbrev pub run_at : SlotId → List (SlotId × Run) → Option Run
+abbrev pub run_at : SlotId → List (SlotId × SlotRun) → Option SlotRun
 run_at slot runs = value_at same_slot slot runs
 
 -- the first slot of that number
 abbrev pub slot_at : SlotId → List SlotAd → Option SlotAd
 slot_at id [] = None
 slot_at id (s ∷ ss) = if same_slot id s.slot then Some s else slot_at id ss
+
+-- no slot has the number of an earlier one
+abbrev pub AreNumberedOnce : List SlotAd → Type 0
+AreNumberedOnce [] = Unit {0}
+AreNumberedOnce (s ∷ ss) = (slot_at s.slot ss ≡ None) × AreNumberedOnce ss
 
 -- ---- what always holds of a pool
 
@@ -64,7 +70,7 @@ abbrev pub has_started : JobId × Job → Bool
 has_started e = not (is_idle e.1.phase)
 
 -- the job's run is that of its slot
-abbrev pub HasItsRun : JobId → Phase → List (SlotId × Run) → Type 0
+abbrev pub HasItsRun : JobId → Phase → List (SlotId × SlotRun) → Type 0
 HasItsRun job Idle runs = Unit {0}
 HasItsRun job (Running run until) runs = IsSomeAnd (run_at run.slot runs)
     (λ r. (r.job ≡ job) × (r.number ≡ run.number) × (r.until ≡ until))
@@ -76,7 +82,7 @@ pub record IsConsistent (p : PoolValue) : Type 0 where
   pub runs_once : HasKeysOnce same_slot p.runs
   -- a run's slot is one of the pool's
   pub placed : (slot : SlotId) → IsSome (run_at slot p.runs) → IsSome (slot_at slot p.slots)
-  pub few : length p.jobs ≤ 10000
+  pub few : length p.jobs ≤ MAX_JOBS
   -- clusters are numbered from 1, in the order of their submission
   pub clusters_few : p.clusters ≤ length p.jobs
   pub numbered : (job : JobId) → IsSome (job_at job p.jobs) → job.cluster ≤ p.clusters

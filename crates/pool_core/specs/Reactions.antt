@@ -15,9 +15,10 @@ use Rattle.pool_core.specs.declared.event.End.TheVariants.{Exited, Signalled, No
 use Rattle.pool_core.specs.declared.event.Event.{Event}
 use Rattle.pool_core.specs.declared.event.Event.TheVariants.{Submit, Start, Ended, Close}
 use Rattle.pool_core.specs.declared.job.Job.{Job}
+use Rattle.pool_core.specs.declared.job.TheConstants.{MAX_JOBS}
 use Rattle.pool_core.specs.declared.job.Phase.{Phase}
 use Rattle.pool_core.specs.declared.job.Phase.TheVariants.{Idle, Running, Held, Finished}
-use Rattle.pool_core.specs.declared.job.Run.{Run}
+use Rattle.pool_core.specs.declared.job.SlotRun.{SlotRun}
 use Rattle.pool_core.specs.declared.job.RunName.{RunName}
 use Rattle.pool_core.specs.declared.numbers.JobId.{JobId}
 use Rattle.pool_core.specs.declared.numbers.SlotId.{SlotId}
@@ -34,8 +35,7 @@ opening_pool slots = record {
   runs = [];
   clusters = 0;
   started = 0;
-  latest
-      = 0;
+  latest = 0;
   closed = false;
 }
 
@@ -85,7 +85,7 @@ abbrev pub first_slot : List SlotAd → SlotId
 first_slot [] = no_slot
 first_slot (s ∷ ss) = s.slot
 
-abbrev pub has_runs : List (SlotId × Run) → Bool
+abbrev pub has_runs : List (SlotId × SlotRun) → Bool
 has_runs [] = false
 has_runs (r ∷ rs) = true
 
@@ -103,7 +103,7 @@ close_refusal p reading none = if is_settled p reading none
 -- why a pool that isn't closed refuses an event
 abbrev pub open_refusal : PoolValue → Event → Option StepError
 open_refusal p (Submit jobs reading) =
-    if nat_lt 10000 (length p.jobs + length jobs) then Some Jobs else None
+    if nat_lt MAX_JOBS (length p.jobs + length jobs) then Some Jobs else None
 open_refusal p (Start job slot judged reading) = start_refusal p job slot judged reading
 open_refusal p (Ended job end reading) =
     if is_some (run_of_job (job_at job p.jobs)) then None else Some (NoRun job)
@@ -162,7 +162,7 @@ with_phase job phase [] = []
 with_phase job phase (e ∷ es) = if same_job job e.0 then (e.0, record e.1 { phase = phase }) ∷ es
     else e ∷ with_phase job phase es
 
-abbrev pub without_run : SlotId → List (SlotId × Run) → List (SlotId × Run)
+abbrev pub without_run : SlotId → List (SlotId × SlotRun) → List (SlotId × SlotRun)
 without_run slot [] = []
 without_run slot (r ∷ rs) = if same_slot slot r.0 then rs else r ∷ without_run slot rs
 
@@ -175,16 +175,15 @@ phase_after run NotStarted = Held run
 abbrev pub run_named : SlotId → ℕ → RunName
 run_named slot number = record { slot = slot; number = number }
 
-abbrev pub submitted : PoolValue → List Attributes → PoolValue
-submitted p ads = record p {
+abbrev pub with_jobs : PoolValue → List Attributes → PoolValue
+with_jobs p ads = record p {
   jobs = p.jobs ++ numbered_jobs (p.clusters + 1) 0 ads;
-  clusters
-      = clusters_after p.clusters ads;
+  clusters = clusters_after p.clusters ads;
 }
 
 -- its lease ends at the reading
-abbrev pub started : PoolValue → JobId → SlotId → Judgement → ℕ → PoolValue
-started p job slot judged reading = record p {
+abbrev pub with_run : PoolValue → JobId → SlotId → Judgement → ℕ → PoolValue
+with_run p job slot judged reading = record p {
   jobs = with_phase job (Running (run_named slot (p.started + 1)) reading) p.jobs;
   runs = p.runs
       ++ (slot, record { job = job; number = p.started + 1; judged = judged; until = reading })
@@ -192,22 +191,22 @@ started p job slot judged reading = record p {
   started = p.started + 1;
 }
 
-abbrev pub ended_with : PoolValue → JobId → End → Option RunName → PoolValue
-ended_with p job end None = p
-ended_with p job end (Some run) = record p {
+abbrev pub with_end_of : PoolValue → JobId → End → Option RunName → PoolValue
+with_end_of p job end None = p
+with_end_of p job end (Some run) = record p {
   jobs = with_phase job (phase_after run end) p.jobs;
   runs = without_run run.slot p.runs;
 }
 
-abbrev pub ended : PoolValue → JobId → End → PoolValue
-ended p job end = ended_with p job end (run_of_job (job_at job p.jobs))
+abbrev pub with_end : PoolValue → JobId → End → PoolValue
+with_end p job end = with_end_of p job end (run_of_job (job_at job p.jobs))
 
-abbrev pub changed : PoolValue → Event → PoolValue
-changed p (Submit jobs reading) = submitted p jobs
-changed p (Start job slot judged reading) = started p job slot judged reading
-changed p (Ended job end reading) = ended p job end
-changed p (Close reading none) = record p { closed = true }
+abbrev pub with_event : PoolValue → Event → PoolValue
+with_event p (Submit jobs reading) = with_jobs p jobs
+with_event p (Start job slot judged reading) = with_run p job slot judged reading
+with_event p (Ended job end reading) = with_end p job end
+with_event p (Close reading none) = record p { closed = true }
 
 -- the pool after an event that it accepts
-abbrev pub after : PoolValue → Event → PoolValue
-after p ev = record (changed p ev) { latest = max p.latest (reading_of ev) }
+abbrev pub pool_after : PoolValue → Event → PoolValue
+pool_after p ev = record (with_event p ev) { latest = max p.latest (reading_of ev) }

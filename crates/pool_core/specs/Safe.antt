@@ -1,6 +1,6 @@
 -- When an abstract pool is safe.
 use Rattle.std.specs.Prelude.{◌≡◌, ◌⊎◌, ◌<◌, Some, IsSome, IfSome}
-use Rattle.pool_core.specs.Ads.{IsMatch, core_of, job_of, slot_of}
+use Rattle.pool_core.specs.Ads.{IsMatch, core_of}
 use Rattle.pool_core.specs.Numbers.{JobId}
 use Rattle.pool_core.specs.AbstractStep.{IsLeased}
 use Rattle.pool_core.specs.AbstractPool.{EndedBy, Removed, State, Idle, Held, Under, Left, Done, Run, AbstractPool, IsIn, IsSpent, HasCore}
@@ -8,13 +8,13 @@ use Rattle.pool_core.specs.AbstractPool.{EndedBy, Removed, State, Idle, Held, Un
 -- the run was started by a match of its slot's ad and its job's
 pub record IsMatched (v : AbstractPool) (r : Run) : Type 0 where
   pub match : IsMatch r.judged
-  pub slot_ad : v.slots r.slot ≡ Some (slot_of r.judged)
-  pub job_ad : HasCore v r.job (core_of (job_of r.judged))
+  pub slot_ad : v.slots r.slot ≡ Some r.judged.slot
+  pub job_ad : HasCore v r.job (core_of r.judged.job)
 
 -- a job that has left the queue did so by an end that its machine said, or by an order
 abbrev pub IsAccounted : AbstractPool → JobId → State → Type 0
 IsAccounted v job (Done (EndedBy run how)) =
-    IsIn (record { run = run; job = job; how = how }) v.said
+    IsIn (record { run = run; job = job; how = how }) v.reports
 IsAccounted v job (Done Removed) = IsIn job v.ordered
 IsAccounted v job Idle = Unit {0}
 IsAccounted v job Held = Unit {0}

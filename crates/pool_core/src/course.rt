@@ -1,15 +1,21 @@
 ghost use Rattle.std.specs.Prelude.{◌≡◌, ◌≢◌, [], ◌∷◌, ◌++◌, None, Some, IfOk, IfErr, OnErr, OnOk, length};
+ghost use Rattle.pool_core.specs.declared.answer.Kept.TheVariants as kept;
+ghost use Rattle.pool_core.specs.declared.event.Event.TheVariants.{Start};
 ghost use Rattle.pool_core.specs.Answers.{kept_of};
-ghost use Rattle.pool_core.specs.Reactions.{opening_pool, refusal, after, answer_to};
+ghost use Rattle.pool_core.specs.Reactions.{opening_pool, refusal, pool_after, answer_to};
 ghost use Rattle.pool_core.specs.Histories.{IsHistory, Shows};
+ghost use Rattle.pool_core.specs.PoolValue.{AreNumberedOnce};
 ghost use Rattle.pool_core.specs.Moving.{EachMoves};
 
 use crate::answer::{Answer, StepError, Stepped};
 use crate::event::Event;
 use crate::history::{History, Step, StepList};
+use crate::launching::launch_of;
+use crate::next::Pair;
 use crate::pool::Pool;
 use crate::slot::SlotAdList;
 use ad_value::{Copied, Memory};
+use pool_outer::Launch;
 use std::alloc::Global;
 use std::marker::Model;
 
@@ -51,8 +57,10 @@ impl Model for Course {
 
 impl Course {
     /// A pool of these slots, to which nothing has happened. The opening is a copy of the pool.
+    /// Computes in O(size of the slots' ads).
     pub fn open(alloc: Global, slots: SlotAdList) -> Result<Course, Memory>
-        requires { slots ≢ [] }
+        requires some { slots ≢ [] }
+        requires once { AreNumberedOnce slots }
         ensures opening { IfOk result (λ c. c.opening ≡ opening_pool slots) }
         ensures list { IfOk result (λ c. c.list ≡ []) }
         ensures pool { IfOk result (λ c. c.pool ≡ opening_pool slots) }
@@ -65,29 +73,32 @@ impl Course {
         })
     }
 
+    /// The pool as it is. Computes in O(1).
     pub fn pool(&self) -> &Pool
         ensures { result.now ≡ self.now.pool }
     {
         &self.pool
     }
 
-    /// How many events were accepted, in constant time.
+    /// How many events were accepted. Computes in O(1).
     pub fn step_count(&self) -> usize
         ensures { result ≡ length self.now.list }
     {
         self.steps.len()
     }
 
-    /// One event. A refused one changes nothing. Costs as much as `Pool::step`, however long the
-    /// history is, but that the list of events doubles its room where it is full.
+    /// One event. An error leaves the pool and its history as they were. Computes as `Pool::step`,
+    /// however long the history is, but that the list of events doubles its room where it is full.
     pub fn act(&mut self, alloc: Global, ev: Event) -> Result<Answer, StepError>
+        // It is accepted.
         ensures accepted { OnOk result (refusal self.old.pool ev ≡ None) }
         ensures answer { IfOk result (λ a. a ≡ answer_to self.old.pool ev) }
         ensures list { OnOk result (self.new.list ≡ self.old.list
             ++ record { event = ev; kept = kept_of (answer_to self.old.pool ev) } ∷ []) }
-        ensures pool { OnOk result (self.new.pool ≡ after self.old.pool ev) }
+        ensures pool { OnOk result (self.new.pool ≡ pool_after self.old.pool ev) }
         ensures opening { self.new.opening ≡ self.old.opening }
 
+        // It is refused, or memory runs out.
         ensures cause { IfErr result
             (λ e. e ≢ StepError.Memory → refusal self.old.pool ev ≡ Some e) }
         ensures same { OnErr result (self.new ≡ self.old) }
@@ -100,7 +111,35 @@ impl Course {
         Ok(answer)
     }
 
-    /// The history, and the pool that it leads to. Takes no memory.
+    /// Starts a job on a slot, which the pool accepts, and says what is to be launched. An error
+    /// leaves the pool and its history as they were. Computes as `Pool::step`.
+    pub fn start(&mut self, alloc: Global, pair: Pair, reading: u64) -> Result<Launch, Memory>
+        requires { refusal self.old.pool (Start pair.job pair.slot pair.judged reading) ≡ None }
+        ensures list { IfOk result (λ what. self.new.list ≡ self.old.list
+            ++ record {
+              event = Start pair.job pair.slot pair.judged reading;
+              kept = kept.Launch what;
+            } ∷ []) }
+        ensures pool { OnOk result (self.new.pool ≡ pool_after self.old.pool
+            (Start pair.job pair.slot pair.judged reading)) }
+        ensures opening { self.new.opening ≡ self.old.opening }
+        ensures same { OnErr result (self.new ≡ self.old) }
+    {
+        let what = launch_of(alloc, pair.judged.job())?;
+        let Pair { job, slot, judged } = pair;
+        let event = Event::Start {
+            job,
+            slot,
+            judged,
+            reading,
+        };
+        match self.act(alloc, event) {
+            Ok(_) => Ok(what),
+            Err(_) => Err(Memory),
+        }
+    }
+
+    /// The history, and the pool that it leads to. Computes in O(1), without memory.
     pub fn finish(self) -> (History, Pool)
         ensures history { IsHistory self.opening.slots result.0 result.1 }
         ensures safe { EachMoves self.opening self.list }

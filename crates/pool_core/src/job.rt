@@ -1,6 +1,6 @@
 ghost use Rattle.std.specs.Prelude.{◌≡◌};
 ghost use Rattle.pool_core.specs.PoolValue.{is_idle};
-ghost use Rattle.pool_core.specs.Reading.{is_finished};
+ghost use Rattle.pool_core.specs.Jobs.{is_finished};
 ghost use Rattle.pool_core.specs.Reactions.{run_in};
 
 use crate::event::End;
@@ -16,6 +16,9 @@ pub struct RunName {
     pub slot: SlotId,
     pub number: u64,
 }
+
+/// How many jobs a pool takes, over all its submissions.
+pub const MAX_JOBS: usize = 10_000;
 
 /// How a job stands (HTCondor manual, Job ClassAd Attributes, JobStatus: Idle, Running, Held,
 /// Completed). A job that could not be started is held.
@@ -41,16 +44,16 @@ impl Drop for Job {
 }
 
 /// What a slot runs, by which match, and until when, a reading.
-pub struct Run {
+pub struct SlotRun {
     pub job: JobId,
     pub number: u64,
     pub judged: Judged,
     pub until: u64,
 }
 
-impl Drop for Run {
+impl Drop for SlotRun {
     fn drop(self) {
-        let Run {
+        let SlotRun {
             job: _,
             number: _,
             judged: _judged,
@@ -92,9 +95,9 @@ impl Copied for Job {
     }
 }
 
-impl Copied for Run {
-    fn copy(&self, alloc: Global) -> Result<Run, Memory> {
-        Ok(Run {
+impl Copied for SlotRun {
+    fn copy(&self, alloc: Global) -> Result<SlotRun, Memory> {
+        Ok(SlotRun {
             job: self.job,
             number: self.number,
             judged: self.judged.copy(alloc)?,

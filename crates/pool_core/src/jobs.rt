@@ -3,11 +3,11 @@ ghost use Rattle.std.specs.Option.{option_map};
 ghost use Rattle.indexmap.specs.IndexMap.{spare};
 ghost use Rattle.pool_core.specs.PoolValue.{HasKeysOnce, job_at};
 ghost use Rattle.pool_core.specs.Numbers.{same_job};
-ghost use Rattle.pool_core.specs.Reading.{idle_jobs, has_unfinished};
+ghost use Rattle.pool_core.specs.Jobs.{idle_jobs, has_unfinished};
 ghost use Rattle.pool_core.specs.Reactions.{idle_ads, numbered_jobs, with_phase};
 
 use crate::ads::after_first;
-use crate::job::{Job, Phase};
+use crate::job::{Job, MAX_JOBS, Phase};
 use crate::numbers::JobId;
 use ad_tree::{Ad, AdList};
 use ad_value::{Copied, Memory};
@@ -89,7 +89,7 @@ pub(crate) fn copy_jobs(alloc: Global, jobs: &JobTable) -> Result<JobTable, Memo
 
 // Adds the jobs of a new cluster; there is room for them.
 pub(crate) fn add_jobs(jobs: &mut JobTable, cluster: u32, ads: Vec<Ad>)
-    requires few { length ads.items ≤ 10000 }
+    requires few { length ads.items ≤ MAX_JOBS }
     requires room { length ads.items ≤ spare jobs.old }
     requires new { (id : JobId) → IsSome (job_at id jobs.old.entries) → id.cluster < cluster }
     ensures { jobs.new.entries ≡ jobs.old.entries ++ numbered_jobs cluster 0 ads.items }

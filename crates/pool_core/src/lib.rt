@@ -10,7 +10,8 @@ mod history;
 mod job;
 mod jobs;
 mod launching;
-mod laws;
+pub mod laws;
+mod next;
 mod numbers;
 mod pool;
 mod runs;
@@ -20,12 +21,8 @@ pub use answer::{Answer, Kept, StepError, Stepped};
 pub use course::Course;
 pub use event::{End, Event};
 pub use history::{History, Step, StepList};
-pub use job::{Job, Phase, Run, RunName};
-pub use laws::{
-    events_keep_consistent, events_make_steps, histories_are_safe, histories_are_shown,
-    histories_grow, moves_keep_safe, steps_keep_dead, steps_keep_jobs, steps_keep_safe,
-    steps_keep_slots,
-};
+pub use job::{Job, MAX_JOBS, Phase, RunName, SlotRun};
+pub use next::{Next, Pair};
 pub use numbers::{JobId, SlotId};
-pub use pool::{MAX_JOBS, Pool};
-pub use slot::{SlotAd, SlotAdList};
+pub use pool::Pool;
+pub use slot::{SlotAd, SlotAdList, are_numbered_once};

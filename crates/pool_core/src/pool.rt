@@ -1,15 +1,20 @@
-ghost use Rattle.std.specs.Prelude.{◌≡◌, ◌≢◌, ◌≤◌, ◌+◌, [], true, nat_lt, length, slice_get, None, Some, IfOk, IfErr, IfSome, IsErrOf, OnErr, OnOk};
+ghost use Rattle.std.specs.Prelude.{◌≡◌, ◌≢◌, ◌≤◌, ◌<◌, ◌+◌, ◌^◌, [], true, nat_lt, length, slice_get, None, Some, IfOk, IfErr, IfSome, IsErrOf, OnErr, OnOk};
 ghost use Rattle.std.specs.Option.{option_map, option_copied};
+ghost use Rattle.pool_core.specs.declared.event.Event.TheVariants.{Submit, Start, Ended};
+ghost use Rattle.pool_core.specs.AbstractStep.{Takes};
 ghost use Rattle.pool_core.specs.Answers.{kept_of};
-ghost use Rattle.pool_core.specs.PoolValue.{job_at, run_at, slot_at};
-ghost use Rattle.pool_core.specs.Reading.{idle_jobs, has_unfinished};
+ghost use Rattle.pool_core.specs.Moving.{steps_of};
+ghost use Rattle.pool_core.specs.PoolValue.{AreNumberedOnce, job_at, run_at, slot_at};
+ghost use Rattle.pool_core.specs.Sound.{IsSound};
+ghost use Rattle.pool_core.specs.View.{view_of};
+ghost use Rattle.pool_core.specs.Jobs.{idle_jobs, has_unfinished};
 ghost use Rattle.pool_core.specs.Sameness.{same_ads};
-ghost use Rattle.pool_core.specs.Reactions.{opening_pool, refusal, start_refusal, close_refusal, is_idle_job, is_judged, is_settled, run_of_job, answer_to, submitted, started, phase_after, ended, after, idle_ads, slot_ads};
+ghost use Rattle.pool_core.specs.Reactions.{opening_pool, refusal, start_refusal, close_refusal, is_idle_job, is_judged, is_settled, run_of_job, answer_to, clusters_after, phase_after, pool_after, idle_ads, slot_ads};
 
 use crate::ads::is_same;
 use crate::answer::{Answer, StepError, Stepped};
 use crate::event::{End, Event};
-use crate::job::{Job, Phase, Run, RunName};
+use crate::job::{Job, MAX_JOBS, Phase, RunName, SlotRun};
 use crate::jobs::{self, JobTable};
 use crate::launching::launch_of;
 use crate::numbers::{JobId, SlotId};
@@ -21,9 +26,6 @@ use ad_value::{Copied, Memory};
 use indexmap::IndexMap;
 use std::alloc::Global;
 use std::marker::Model;
-
-/// How many jobs a pool takes, over all its submissions.
-pub const MAX_JOBS: usize = 10_000;
 
 /// A pool of slots and jobs, which contracts see as a `PoolValue`.
 pub struct Pool {
@@ -51,11 +53,12 @@ impl Drop for Pool {
 }
 
 impl Model for Pool {
-    ghost use Rattle.pool_core.specs.PoolValue.{PoolValue, pool_value, IsConsistent};
+    ghost use Rattle.pool_core.specs.PoolValue.{PoolValue, pool_value};
+    ghost use Rattle.pool_core.specs.Sound.{IsSound};
     ghost use Rattle.std.specs.Coded.{codes};
     ghost use Rattle.pool_core.specs.contracts.slot.SlotAd as slot_ad;
     ghost use Rattle.pool_core.specs.contracts.job.Job as job;
-    ghost use Rattle.pool_core.specs.contracts.job.Run as run;
+    ghost use Rattle.pool_core.specs.contracts.job.SlotRun as run;
 
     ghost Value = { PoolValue };
 
@@ -65,14 +68,15 @@ impl Model for Pool {
     ghost view = { λ p. pool_value p.slots p.jobs.entries p.runs.entries p.clusters p.started
         p.latest p.closed };
 
-    ghost invariant = { λ p. IsConsistent (pool_value p.slots p.jobs.entries p.runs.entries
-        p.clusters p.started p.latest p.closed) };
+    ghost invariant = { λ p. IsSound (pool_value p.slots p.jobs.entries p.runs.entries p.clusters
+        p.started p.latest p.closed) };
 }
 
 impl Pool {
-    /// A pool of these slots, without jobs. Takes no memory.
+    /// A pool of these slots, without jobs. Computes in O(1), without memory.
     pub fn open(alloc: Global, slots: SlotAdList) -> Pool
-        requires { slots ≢ [] }
+        requires some { slots ≢ [] }
+        requires once { AreNumberedOnce slots }
         ensures { result ≡ opening_pool slots }
     {
         Pool {
@@ -86,20 +90,28 @@ impl Pool {
         }
     }
 
+    /// What always holds of a pool; nothing is computed.
+    pub fn soundness(&self)
+        ensures { IsSound self.now }
+    {
+        let _ = &self.slots;
+    }
+
+    /// The slots, as they were at its opening. Computes in O(1).
     pub fn slots(&self) -> &SlotAdList
         ensures { result.now ≡ self.now.slots }
     {
         &self.slots
     }
 
-    /// The job of that number, in time that does not grow with the pool.
+    /// The job of that number. Computes in O(1).
     pub fn job(&self, job: JobId) -> Option<&Job>
         ensures { option_copied result ≡ job_at job self.now.jobs }
     {
         self.jobs.get(&job)
     }
 
-    /// The job that was submitted at that place, from 0, in constant time.
+    /// The job that was submitted at that place, from 0. Computes in O(1).
     pub fn job_at(&self, place: usize) -> Option<(JobId, &Job)>
         ensures { option_map (λ e. (e.0, e.1.now)) result ≡ slice_get self.now.jobs place }
     {
@@ -107,22 +119,23 @@ impl Pool {
         Some((*id, job))
     }
 
-    /// How many jobs were submitted, in constant time.
+    /// How many jobs were submitted. Computes in O(1).
     pub fn job_count(&self) -> usize
         ensures count { result ≡ length self.now.jobs }
-        ensures few { result ≤ 10000 }
+        ensures few { result ≤ MAX_JOBS }
     {
         self.jobs.len()
     }
 
-    /// Copies of the ads of the idle jobs, in the order of their submission. Walks over all jobs.
+    /// Copies of the ads of the idle jobs, in the order of their submission. Computes in O(jobs),
+    /// and in O(size of the ads).
     pub fn idle_ads(&self, alloc: Global) -> Result<AdList, Memory>
         ensures { IfOk result (λ l. l ≡ idle_ads self.now.jobs) }
     {
         jobs::idle_ads(alloc, &self.jobs)
     }
 
-    /// The idle job at a place among the idle ones, from 0. Walks over the jobs up to it.
+    /// The idle job at a place among the idle ones, from 0. Computes in O(jobs).
     pub fn idle_job(&self, place: usize) -> Option<(JobId, &Ad)>
         ensures { option_map (λ e. (e.0, e.1.now)) result ≡ slice_get (idle_jobs self.now.jobs)
             place }
@@ -130,27 +143,29 @@ impl Pool {
         jobs::idle_job(&self.jobs, place)
     }
 
-    /// Copies of the slots' ads.
+    /// Copies of the slots' ads. Computes in O(size of the ads).
     pub fn slot_ads(&self, alloc: Global) -> Result<AdList, Memory>
         ensures { IfOk result (λ l. l ≡ slot_ads self.now.slots) }
     {
         slot::slot_ads(alloc, self.slots.as_slice())
     }
 
-    /// The greatest reading so far, in seconds since 1970-01-01 00:00:00 UTC, 0 at first.
+    /// The greatest reading so far, in seconds since 1970-01-01 00:00:00 UTC, 0 at first. Computes
+    /// in O(1).
     pub fn latest(&self) -> u64
         ensures { result ≡ self.now.latest }
     {
         self.latest
     }
 
+    /// Whether a Close was accepted. Computes in O(1).
     pub fn is_closed(&self) -> bool
         ensures { result ≡ self.now.closed }
     {
         self.closed
     }
 
-    /// Whether some job isn't finished. Walks over the jobs up to it.
+    /// Whether some job isn't finished. Computes in O(jobs).
     pub fn has_unfinished(&self) -> bool
         ensures { result ≡ has_unfinished self.now.jobs }
     {
@@ -173,21 +188,26 @@ impl Copied for Pool {
 }
 
 impl Pool {
-    /// One event. A refused one changes nothing. Takes memory for the answer, its equal and what
-    /// the pool keeps of the event. A Start computes in O(slots up to its own), an Ended in O(runs
-    /// that began later), a Close in O(jobs + slots), each times the size of the ads that it looks
-    /// at; a Submit's time does not grow with the pool.
+    /// One event. An error leaves the pool as it was. Takes memory for the answer, its equal and
+    /// what the pool keeps of the event. A Submit computes in O(size of its ads), a Start in
+    /// O(slots) and in O(size of the two ads), an Ended in O(runs that began later), a Close in
+    /// O(jobs) and in O(size of the idle jobs' ads and of the slots').
     pub fn step(&mut self, alloc: Global, ev: &Event) -> Result<Stepped, StepError>
+        // It is accepted.
         ensures accepted { OnOk result (refusal self.old ev.now ≡ None) }
         ensures answer { IfOk result (λ s. s.answer ≡ answer_to self.old ev.now) }
         ensures kept { IfOk result (λ s. s.kept ≡ kept_of s.answer) }
-        ensures next { OnOk result (self.new ≡ after self.old ev.now) }
+        ensures next { OnOk result (self.new ≡ pool_after self.old ev.now) }
+        ensures moves { OnOk result
+            (Takes (view_of self.old) (steps_of self.old ev.now) (view_of self.new)) }
 
+        // It is refused, or memory runs out.
         ensures refused { IfSome (refusal self.old ev.now) (λ e. IsErrOf result e) }
         ensures cause { IfErr result
             (λ e. e ≢ StepError.Memory → refusal self.old ev.now ≡ Some e) }
         ensures same { OnErr result (self.new ≡ self.old) }
     {
+        self.soundness();
         if let Some(error) = self.refusal(ev) {
             return Err(error);
         }
@@ -222,7 +242,7 @@ impl Pool {
 
     // Whether the jobs would be too many.
     fn is_full_for(&self, jobs: &AdList) -> bool
-        ensures { result ≡ nat_lt 10000 (length self.now.jobs + length jobs.now) }
+        ensures { result ≡ nat_lt MAX_JOBS (length self.now.jobs + length jobs.now) }
     {
         jobs.len() > MAX_JOBS - self.jobs.len()
     }
@@ -331,36 +351,40 @@ impl Pool {
     // The change that an accepted event makes; without memory for it, none.
     fn change(&mut self, alloc: Global, ev: &Event) -> Result<(), Memory>
         requires { refusal self.old ev.now ≡ None }
-        ensures ok { OnOk result (self.new ≡ after self.old ev.now) }
+        ensures ok { OnOk result (self.new ≡ pool_after self.old ev.now) }
         ensures err { OnErr result (self.new ≡ self.old) }
     {
         match ev {
-            Event::Submit { jobs, .. } => self.submit(alloc, jobs)?,
+            Event::Submit { jobs, reading } => self.submit(alloc, jobs, *reading),
             Event::Start {
                 job,
                 slot,
                 judged,
                 reading,
-            } => self.start(alloc, *job, *slot, judged, *reading)?,
-            Event::Ended { job, end, .. } => self.end(*job, *end),
-            Event::Close { .. } => self.closed = true,
+            } => self.start(alloc, *job, *slot, judged, *reading),
+            Event::Ended { job, end, reading } => {
+                self.end(*job, *end, *reading);
+                Ok(())
+            }
+            Event::Close { reading, .. } => {
+                self.closed = true;
+                self.latest = self.latest.max(*reading);
+                Ok(())
+            }
         }
-        self.latest = self.latest.max(ev.reading());
-        Ok(())
     }
 
-    fn submit(&mut self, alloc: Global, ads: &AdList) -> Result<(), Memory>
-        requires { length self.old.jobs + length ads.now ≤ 10000 }
-        ensures ok { OnOk result (self.new ≡ submitted self.old ads.now) }
+    fn submit(&mut self, alloc: Global, ads: &AdList, reading: u64) -> Result<(), Memory>
+        requires { refusal self.old (Submit ads.now reading) ≡ None }
+        ensures ok { OnOk result (self.new ≡ pool_after self.old (Submit ads.now reading)) }
         ensures err { OnErr result (self.new ≡ self.old) }
     {
-        if ads.is_empty() {
-            return Ok(());
-        }
+        let clusters = clusters_after(self.clusters, ads);
         let ads = ads.copy(alloc)?;
         self.jobs.reserve(ads.len())?;
-        self.clusters += 1;
-        jobs::add_jobs(&mut self.jobs, self.clusters, ads.into_vec());
+        jobs::add_jobs(&mut self.jobs, self.clusters + 1, ads.into_vec());
+        self.clusters = clusters;
+        self.latest = self.latest.max(reading);
         Ok(())
     }
 
@@ -372,8 +396,9 @@ impl Pool {
         judged: &Judged,
         reading: u64,
     ) -> Result<(), Memory>
-        requires { start_refusal self.old job slot judged.now reading ≡ None }
-        ensures ok { OnOk result (self.new ≡ started self.old job slot judged.now reading) }
+        requires { refusal self.old (Start job slot judged.now reading) ≡ None }
+        ensures ok { OnOk result
+            (self.new ≡ pool_after self.old (Start job slot judged.now reading)) }
         ensures err { OnErr result (self.new ≡ self.old) }
     {
         let judged = judged.copy(alloc)?;
@@ -382,7 +407,7 @@ impl Pool {
         let until = reading;
         let run = RunName { slot, number };
         jobs::set_phase(&mut self.jobs, job, Phase::Running { run, until });
-        let run = Run {
+        let run = SlotRun {
             job,
             number,
             judged,
@@ -390,16 +415,30 @@ impl Pool {
         };
         add_run(&mut self.runs, slot, run);
         self.started = number;
+        self.latest = self.latest.max(reading);
         Ok(())
     }
 
-    fn end(&mut self, job: JobId, end: End)
-        ensures { self.new ≡ ended self.old job end }
+    fn end(&mut self, job: JobId, end: End, reading: u64)
+        requires { refusal self.old (Ended job end reading) ≡ None }
+        ensures { self.new ≡ pool_after self.old (Ended job end reading) }
     {
-        if let Some(own) = self.run_of(job) {
-            jobs::set_phase(&mut self.jobs, job, phase_after(own, end));
-            remove_run(&mut self.runs, own.slot);
-        }
+        let own = self.run_of(job).unwrap();
+        jobs::set_phase(&mut self.jobs, job, phase_after(own, end));
+        remove_run(&mut self.runs, own.slot);
+        self.latest = self.latest.max(reading);
+    }
+}
+
+// How many submissions had jobs, with one more.
+fn clusters_after(clusters: u32, ads: &AdList) -> u32
+    requires { clusters + 1 < 2 ^ 32 }
+    ensures { result ≡ clusters_after clusters ads.now }
+{
+    if ads.is_empty() {
+        clusters
+    } else {
+        clusters + 1
     }
 }
 

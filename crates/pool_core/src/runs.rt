@@ -4,13 +4,13 @@ ghost use Rattle.pool_core.specs.Reactions.{without_run};
 ghost use Rattle.pool_core.specs.PoolValue.{HasKeysOnce, run_at};
 ghost use Rattle.pool_core.specs.Numbers.{same_slot};
 
-use crate::job::Run;
+use crate::job::SlotRun;
 use crate::numbers::SlotId;
 use ad_value::{Copied, Memory};
 use indexmap::IndexMap;
 use std::alloc::Global;
 
-pub(crate) type RunTable = IndexMap<SlotId, Run>;
+pub(crate) type RunTable = IndexMap<SlotId, SlotRun>;
 
 // An equal table.
 pub(crate) fn copy_runs(alloc: Global, runs: &RunTable) -> Result<RunTable, Memory>
@@ -25,7 +25,7 @@ pub(crate) fn copy_runs(alloc: Global, runs: &RunTable) -> Result<RunTable, Memo
 }
 
 // Adds the run of a slot that has none; there is room for it.
-pub(crate) fn add_run(runs: &mut RunTable, slot: SlotId, run: Run)
+pub(crate) fn add_run(runs: &mut RunTable, slot: SlotId, run: SlotRun)
     requires room { 0 < spare runs.old }
     requires free { run_at slot runs.old.entries ≡ None }
     ensures { runs.new.entries ≡ runs.old.entries ++ (slot, run) ∷ [] }

@@ -1,6 +1,6 @@
-ghost use Rattle.std.specs.Prelude.{◌≡◌, ◌↔◌, IfOk, IsTrue};
+ghost use Rattle.std.specs.Prelude.{◌≡◌, ◌↔◌, slice_get, IfOk, IsTrue};
 ghost use Rattle.std.specs.Option.{option_copied};
-ghost use Rattle.pool_core.specs.PoolValue.{slot_at};
+ghost use Rattle.pool_core.specs.PoolValue.{AreNumberedOnce, slot_at};
 ghost use Rattle.pool_core.specs.Reactions.{first_slot, slot_ads};
 
 use crate::ads::after_first;
@@ -63,6 +63,27 @@ pub(crate) fn slot_at(id: SlotId, slots: &[SlotAd]) -> Option<&SlotAd>
         }
     }
     None
+}
+
+// The slot at a place.
+pub(crate) fn slot_at_place(slots: &[SlotAd], place: usize) -> Option<&SlotAd>
+    ensures { option_copied result ≡ slice_get slots.now place }
+{
+    slots.get(place)
+}
+
+/// Whether no slot has the number of an earlier one. Computes in O(slots^2), without memory.
+pub fn are_numbered_once(slots: &[SlotAd]) -> bool
+    ensures { IsTrue result ↔ AreNumberedOnce slots.now }
+{
+    let mut rest = slots;
+    'slots: while let Some((first, after)) = rest.split_first() {
+        if slot_at(first.slot, after).is_some() {
+            return false;
+        }
+        rest = after;
+    }
+    true
 }
 
 // Copies of the slots' ads.

@@ -1,6 +1,6 @@
 -- All jobs so far are finished.
 use Rattle.std.proofs.Common.{◌≡◌}
-use Rattle.pool_core.specs.Reading.{has_unfinished}
+use Rattle.pool_core.specs.Jobs.{has_unfinished}
 use Rattle.pool_core.proofs.jobs.has_unfinished.Given as goal
 
 abbrev pub invariant-loop-job : goal.invariant-loop-job

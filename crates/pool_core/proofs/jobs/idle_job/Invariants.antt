@@ -1,6 +1,6 @@
 -- The place counts from here on.
 use Rattle.std.proofs.Common.{◌≡◌, slice_get}
-use Rattle.pool_core.specs.Reading.{idle_jobs}
+use Rattle.pool_core.specs.Jobs.{idle_jobs}
 use Rattle.pool_core.proofs.jobs.idle_job.Given as goal
 
 abbrev pub invariant-loop-id : goal.invariant-loop-id

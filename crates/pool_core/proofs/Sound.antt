@@ -1,0 +1,46 @@
+-- What holds of every pool is kept by each event.
+use Rattle.std.proofs.Common.{◌≡◌, ◌<◌, ◌≤◌, ◌⊎◌, List, [], ◌∷◌, IsSomeAnd, sym, subst}
+use Rattle.pool_core.specs.declared.event.Event.{Event}
+use Rattle.pool_core.specs.declared.slot.SlotAd.{SlotAd}
+use Rattle.std.proofs.Common.{None}
+use Rattle.pool_core.specs.AbstractPool.{AbstractPool, SameView, SlotMark, IsUsed}
+use Rattle.pool_core.specs.AbstractStep.{AbstractStep, view_after, Takes}
+use Rattle.pool_core.specs.Moving.{steps_of}
+use Rattle.pool_core.specs.PoolValue.{PoolValue, AreNumberedOnce}
+use Rattle.pool_core.specs.Reactions.{opening_pool, refusal, pool_after}
+use Rattle.pool_core.specs.Safe.{RunsSpent}
+use Rattle.pool_core.specs.Sound.{IsSound}
+use Rattle.pool_core.specs.View.{view_of}
+use Rattle.pool_core.proofs.Consistent.{after_consistent, opening_consistent}
+use Rattle.pool_core.proofs.Moving.{moves, opening_safe}
+use Rattle.pool_core.proofs.Showing.{slots_kept}
+use Rattle.pool_core.proofs.Steps.{takes_safe, step_runs_spent}
+
+same_spent : (v w : AbstractPool) → SameView v w → RunsSpent v → RunsSpent w
+same_spent v w same spent r there =
+    subst (λ o. IsSomeAnd o (λ (m : SlotMark). (r.run.claim.boot < m.boot) ⊎ (((r.run.claim.boot ≡ m.boot) × (r.run.claim.seq ≤ m.ended)) ⊎ IsUsed m.held r.run))) (sym (same.marks r.run.claim.slot)) (spent r ((same.runs r).1 there))
+
+takes_spent : (v : AbstractPool) (ks : List AbstractStep) (w : AbstractPool) → Takes v ks w → RunsSpent v → RunsSpent w
+takes_spent v [] w takes spent = same_spent v w takes spent
+takes_spent v (k ∷ ks) w takes spent = takes_spent (view_after v k) ks w takes.1 (step_runs_spent v k spent takes.0)
+
+pub after_sound : (p : PoolValue) (ev : Event) → IsSound p → refusal p ev ≡ None → IsSound (pool_after p ev)
+after_sound p ev is ok =
+    let takes = moves p ev is.consistent ok in
+    let next = takes_safe (view_of p) (steps_of p ev) (view_of (pool_after p ev)) takes is.safe is.leased in
+    record {
+      consistent = after_consistent p ev is.consistent ok;
+      slots_once = subst AreNumberedOnce (sym (slots_kept p ev)) is.slots_once;
+      safe = next.0;
+      leased = next.1;
+      spent = takes_spent (view_of p) (steps_of p ev) (view_of (pool_after p ev)) takes is.spent;
+    }
+
+pub opening_sound : (slots : List SlotAd) → AreNumberedOnce slots → IsSound (opening_pool slots)
+opening_sound slots once = record {
+  consistent = opening_consistent slots;
+  slots_once = once;
+  safe = opening_safe slots;
+  leased = λ r there. absurd there;
+  spent = λ r there. absurd there;
+}
