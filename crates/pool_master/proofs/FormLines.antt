@@ -5,19 +5,19 @@ use Rattle.std.proofs.lemmas.Bool.Decides.{nat_tests}
 use Rattle.std.proofs.lemmas.List.Elements.{All-weaker}
 use Rattle.std.proofs.lemmas.Str.{IsUtf8-from_ascii}
 use Rattle.std.proofs.lemmas.Str.Ascii.{IsAscii-from_all}
-use Rattle.pool_master.specs.Forms.{Line, line, LineForm, IsOfForm, Fits, IsName, IsPath, is_name_byte, is_path_byte, IsFirstBad, IsAmount, MemoryLine, RequestMemoryLine, lines_of, memory_line, request_memory_line, with_byte}
+use Rattle.pool_master.specs.Forms.{Line, line, LineForm, IsOfForm, Fits, IsMachineName, IsPath, is_machine_name_byte, is_path_byte, IsFirstBad, IsAmount, MemoryLine, RequestMemoryLine, lines_of, memory_line, request_memory_line, with_byte}
 
 pub not_fits : (form : LineForm) (ls : List Line) → ((text : List ℕ) (rest : List Line) → IsOfForm form text → ls ≢ line text ∷ rest) → Fits (Some form) (slice_get ls 0) → ⊥
 not_fits form [] none fits = fits
 not_fits form (l ∷ ls) none fits = none l.text ls fits.1 (ap (λ e. record { text = l.text; ended = e } ∷ ls) fits.0)
 
-small_name_byte : (b : ℕ) → is_name_byte b ≡ true → b < 128
+small_name_byte : (b : ℕ) → is_machine_name_byte b ≡ true → b < 128
 small_name_byte b h = grind (arith, nat_tests)
 
 small_path_byte : (b : ℕ) → is_path_byte b ≡ true → b < 128
 small_path_byte b h = grind (arith, nat_tests)
 
-pub IsUtf8-name : (name : List ℕ) → IsName name → IsUtf8 name
+pub IsUtf8-name : (name : List ℕ) → IsMachineName name → IsUtf8 name
 IsUtf8-name name is = IsUtf8-from_ascii name (IsAscii-from_all name (All-weaker _ _ small_name_byte name is.bytes))
 
 pub IsUtf8-path : (path : List ℕ) → IsPath path → IsUtf8 path

@@ -2,7 +2,6 @@ pub mod FirstOf
 pub mod Refusals
 pub mod PoolRun
 pub mod Playing
-pub mod Pools
 pub mod RunLists
 pub mod UserLogs
 pub mod FormLines

@@ -1,60 +1,47 @@
 -- What a pool's part of a run leaves: without a pool, and with one that was closed or not.
 use Rattle.std.proofs.Common.{◌≡◌, ◌≢◌, ◌∙◌, ◌⊎◌, inl, inr, ℕ, List, [], ◌∷◌, ◌++◌, length, take, codes, Bool, true, false, Option, Some, None, refl, sym, ap, subst}
 use Rattle.std.proofs.lemmas.List.{append-nil}
-use Rattle.pool_outer.specs.declared.spawner.ChildState.{ChildState}
-use Rattle.pool_outer.specs.declared.spawner.Launch.{Launch}
 use Rattle.pool_outer.specs.Cause.{Rose}
 use Rattle.pool_core.specs.declared.history.History.{History}
 use Rattle.pool_core.specs.declared.history.Step.{Step}
 use Rattle.pool_core.specs.PoolValue.{PoolValue}
-use Rattle.pool_core.specs.Histories.{LeadsTo, IsHistory, Shows, submits, ends_in_close}
+use Rattle.pool_core.specs.Histories.{LeadsTo, IsHistory, Shows, submissions_in, ends_in_close}
 use Rattle.pool_core.specs.Moving.{EachMoves}
-use Rattle.pool_core.specs.Reactions.{opening_pool, after}
+use Rattle.pool_core.specs.Reactions.{opening_pool, pool_after}
 use Rattle.pool_master.specs.declared.status.Status.{Status}
 use Rattle.pool_master.specs.declared.status.Status.TheVariants as status
 use Rattle.pool_master.specs.declared.status.Kind.{Kind}
-use Rattle.pool_master.specs.Input.{IsEarly, IsInputOf, IsRefusedOf, IsRefusedInput}
+use Rattle.pool_master.specs.Input.{IsInputOf, IsRefusedOf, IsRefusedInput}
 use Rattle.pool_master.specs.Words.{IsRun}
 use Rattle.pool_master.specs.Follows.{Follows, IsBetween}
+use Rattle.pool_master.specs.Seen.{SpawnerSeen, SinkSeen}
+use Rattle.pool_master.specs.Status.{Stage, AtWords, AtFiles, AtAnyTime, AfterClose, Later, stage_of, IsAtFiles, IsAfterFiles}
 use Rattle.pool_master.specs.UserLog.{IsUserLog}
 use Rattle.pool_master.specs.Made.{machine_slot}
-use Rattle.pool_master.specs.Run.{pool_after, IsSubmitted, job_left, ClosesFrom, IsClosed, IsReplay, OfJobFrom, OfFilesFrom, OfInputFrom, WritesPart, WritesAll, PoolRuns, HasNothing, IsLate, IsPrinted}
-use Rattle.pool_master.proofs.Playing.{follows_none}
-use Rattle.pool_master.proofs.UserLogs.{same_log}
+use Rattle.pool_master.specs.WholeRun.{last_pool, IsSubmitted, job_left, ClosesFrom, IsClosed, IsReplay, OfJobFrom, OfFilesFrom, OfInputFrom, WritesPart, WritesAll, PoolRuns, HasNothing, IsPrinted}
+use Rattle.pool_master.proofs.Playing.{IsIdle, follows_none}
 
--- a status that doesn't come of a pool that was closed
-abbrev pub IsNoEnd : Status → Type 0
-IsNoEnd status.Done = ⊥
-IsNoEnd status.Usage = Unit {0}
-IsNoEnd (status.Input file line kind) = Unit {0}
-IsNoEnd status.Stuck = ⊥
-IsNoEnd status.DiskFault = Unit {0}
-IsNoEnd status.OutFault = ⊥
-IsNoEnd status.Memory = Unit {0}
-IsNoEnd (status.BadLog line) = Unit {0}
-IsNoEnd (status.Limit which) = Unit {0}
+no_done : {A : Type 0} (s : Status) → stage_of s ≢ AfterClose → s ≡ status.Done → A
+no_done s early is = absurd (early (ap stage_of is))
 
-no_done : {A : Type 0} (s : Status) → IsNoEnd s → s ≡ status.Done → A
-no_done s early is = absurd (subst IsNoEnd is early)
+no_stuck : {A : Type 0} (s : Status) → stage_of s ≢ AfterClose → s ≡ status.Stuck → A
+no_stuck s early is = absurd (early (ap stage_of is))
 
-no_stuck : {A : Type 0} (s : Status) → IsNoEnd s → s ≡ status.Stuck → A
-no_stuck s early is = absurd (subst IsNoEnd is early)
-
-no_out_fault : {A : Type 0} (s : Status) → IsNoEnd s → s ≡ status.OutFault → A
-no_out_fault s early is = absurd (subst IsNoEnd is early)
+no_out_fault : {A : Type 0} (s : Status) → stage_of s ≢ AfterClose → s ≡ status.OutFault → A
+no_out_fault s early is = absurd (early (ap stage_of is))
 
 not_closed : {A : Type 0} (h : History) (left : Bool) → h.opening ≡ None → IsClosed h left → A
 not_closed h left none closed = absurd (subst (λ (o : Option PoolValue). ClosesFrom o h.list left) none closed)
 
 -- no pool was opened
-pub nothing_runs : (allows : ℕ → Type 0) (tells : Bool) (launches : List Launch) (seen : ℕ → ChildState) (killed : ℕ → Bool) (faults : ℕ) (writes : Bool) (old : List ℕ) (out : ℕ) (s : Status) (h : History) → HasNothing h → h.load ≡ false → IsNoEnd s → (tells ≡ true → length launches ≡ 0) → (tells ≡ true → (k : ℕ) → killed k ≡ false) → PoolRuns allows tells launches seen killed faults faults writes old old out out s h
-nothing_runs allows tells launches seen killed faults writes old out s h nothing load early idle spared = record {
+pub nothing_runs : {P K : Type 0} (allows : ℕ → Type 0) (spawner : P → SpawnerSeen) (p : P) (sink : K → SinkSeen) (o : K) (s : Status) (h : History) → HasNothing h → h.load ≡ false → stage_of s ≢ AfterClose → IsIdle (spawner p) → PoolRuns allows spawner p p sink o o s h
+nothing_runs allows spawner p sink o s h nothing load early idle = record {
   replay = record { replays = rw nothing.no_opening nothing.none; no_load = load };
   safe = rw nothing.no_opening tt;
-  follows = follows_none allows tells launches seen killed faults h.list idle spared nothing.none;
-  all_launched = λ told left closed. not_closed h left nothing.no_opening closed;
-  written = λ told text is. (0, sym (append-nil old));
-  all_written = λ told ends. record { text = []; is_log = rw nothing.no_opening refl; written = sym (append-nil old) };
+  follows = follows_none allows (spawner p) h.list idle nothing.none;
+  all_launched = λ left closed. not_closed h left nothing.no_opening closed;
+  written = λ told. inl refl;
+  all_written = λ told ends. record { text = []; is_log = rw nothing.no_opening refl; written = sym (append-nil _) };
   done = λ is. no_done s early is;
   done_comes = λ closed quiet. not_closed h false nothing.no_opening closed;
   stuck = λ is. no_stuck s early is;
@@ -63,9 +50,9 @@ nothing_runs allows tells launches seen killed faults writes old out s h nothing
 }
 
 -- a history leads to one pool
-pub leads_after : (p : PoolValue) (list : List Step) (q : PoolValue) → LeadsTo p list q → q ≡ pool_after p list
+pub leads_after : (p : PoolValue) (list : List Step) (q : PoolValue) → LeadsTo p list q → q ≡ last_pool p list
 leads_after p [] q leads = leads
-leads_after p (s ∷ ss) q leads = leads_after (after p s.event) ss q leads.1
+leads_after p (s ∷ ss) q leads = leads_after (pool_after p s.event) ss q leads.1
 
 -- what is known of a history and the pool that it leads to
 pub record IsPlayed (h : History) (p : PoolValue) : Type 0 where
@@ -89,7 +76,7 @@ played o list h p opened same is moves shows = record {
 }
 
 -- its job is the one that was asked for
-pub played_job : (name : List ℕ) (memory : ℕ) (program : List ℕ) (request : ℕ) (o : PoolValue) (h : History) (p : PoolValue) → h.opening ≡ Some (opening_pool o.slots) → o ≡ opening_pool o.slots → o ≡ opening_pool (machine_slot name memory ∷ []) → p.closed ≡ ends_in_close h.list → (submits h.list ≡ []) ⊎ IsSubmitted program request h.list → (p.closed ≡ true → IsSubmitted program request h.list) → OfJobFrom name memory program request h.opening h.list
+pub played_job : (name : List ℕ) (memory : ℕ) (program : List ℕ) (request : ℕ) (o : PoolValue) (h : History) (p : PoolValue) → h.opening ≡ Some (opening_pool o.slots) → o ≡ opening_pool o.slots → o ≡ opening_pool (machine_slot name memory ∷ []) → p.closed ≡ ends_in_close h.list → (submissions_in h.list ≡ []) ⊎ IsSubmitted program request h.list → (p.closed ≡ true → IsSubmitted program request h.list) → OfJobFrom name memory program request h.opening h.list
 played_job name memory program request o h p opening opened is ends partly closed = rw opening (record { opening_is = sym opened ∙ is; submitted = record { partly = partly; closed = λ end. closed (ends ∙ end) } })
 
 pub played_replay : (h : History) (p : PoolValue) → IsPlayed h p → IsReplay h
@@ -150,32 +137,32 @@ no_disk_fault s left before now printed (inr (inl is)) = inr is
 no_disk_fault s left before now printed (inr (inr is)) = absurd (subst (IsPrinted left before now) is printed)
 
 -- the pool was closed, and its log was printed or not
-pub printed_runs : (allows : ℕ → Type 0) (tells : Bool) (launches : List Launch) (seen : ℕ → ChildState) (killed : ℕ → Bool) (spawn_before spawn_now : ℕ) (writes : Bool) (old new : List ℕ) (before now : ℕ) (s : Status) (h : History) (p : PoolValue) → IsPlayed h p → p.closed ≡ true → Follows allows tells launches seen killed spawn_before spawn_now h.list → IsBetween tells launches h.list → (writes ≡ true → WritesPart h old new) → (writes ≡ true → (s ≡ status.Done) ⊎ (s ≡ status.Stuck) → WritesAll h old new) → IsPrinted (job_left p) before now s → PoolRuns allows tells launches seen killed spawn_before spawn_now writes old new before now s h
-printed_runs allows tells launches seen killed spawn_before spawn_now writes old new before now s h p is closed follows between part whole printed = record {
+pub printed_runs : {P K : Type 0} (allows : ℕ → Type 0) (spawner : P → SpawnerSeen) (a b : P) (sink : K → SinkSeen) (o q : K) (s : Status) (h : History) (p : PoolValue) → IsPlayed h p → p.closed ≡ true → Follows allows (spawner a) (spawner b) h.list → IsBetween (spawner b) h.list → ((sink o).tells ≡ true → WritesPart h (sink o).written (sink q).written) → ((sink o).tells ≡ true → (s ≡ status.Done) ⊎ (s ≡ status.Stuck) → WritesAll h (sink o).written (sink q).written) → IsPrinted (job_left p) (sink o).faults (sink q).faults s → PoolRuns allows spawner a b sink o q s h
+printed_runs allows spawner a b sink o q s h p is closed follows between part whole printed = record {
   replay = played_replay h p is;
   safe = rw is.opening_is is.moves;
   follows = follows;
-  all_launched = λ told left c. between.launched told;
+  all_launched = λ left c. between;
   written = part;
-  all_written = λ told ends. whole told (no_disk_fault s (job_left p) before now printed ends);
-  done = λ e. done_of s (job_left p) before now h printed (closes h p is closed) e;
-  done_comes = λ c quiet. done_comes_of s (job_left p) before now printed (closed_so h p false is c).1 quiet;
-  stuck = λ e. stuck_of s (job_left p) before now h printed (closes h p is closed) e;
-  stuck_comes = λ c quiet. stuck_comes_of s (job_left p) before now printed (closed_so h p true is c).1 quiet;
-  out_fault = λ e. (out_fault_of s (job_left p) before now printed e, (job_left p, closes h p is closed));
+  all_written = λ told ends. whole told (no_disk_fault s (job_left p) _ _ printed ends);
+  done = λ e. done_of s (job_left p) _ _ h printed (closes h p is closed) e;
+  done_comes = λ c quiet. done_comes_of s (job_left p) _ _ printed (closed_so h p false is c).1 quiet;
+  stuck = λ e. stuck_of s (job_left p) _ _ h printed (closes h p is closed) e;
+  stuck_comes = λ c quiet. stuck_comes_of s (job_left p) _ _ printed (closed_so h p true is c).1 quiet;
+  out_fault = λ e. (out_fault_of s (job_left p) _ _ printed e, (job_left p, closes h p is closed));
 }
 
 open_pool_clash : {A : Type 0} (h : History) (p : PoolValue) (left : Bool) → IsPlayed h p → p.closed ≢ true → IsClosed h left → A
 open_pool_clash h p left is open_ closed = absurd (open_ (closed_so h p left is closed).0)
 
--- want of memory before the pool was closed
-pub open_runs : (allows : ℕ → Type 0) (tells : Bool) (launches : List Launch) (seen : ℕ → ChildState) (killed : ℕ → Bool) (spawn_before spawn_now : ℕ) (writes : Bool) (old : List ℕ) (out : ℕ) (h : History) (p : PoolValue) → IsPlayed h p → p.closed ≢ true → Follows allows tells launches seen killed spawn_before spawn_now h.list → PoolRuns allows tells launches seen killed spawn_before spawn_now writes old old out out status.Memory h
-open_runs allows tells launches seen killed spawn_before spawn_now writes old out h p is open_ follows = record {
+-- out of memory before the pool was closed
+pub open_runs : {P K : Type 0} (allows : ℕ → Type 0) (spawner : P → SpawnerSeen) (a b : P) (sink : K → SinkSeen) (o : K) (h : History) (p : PoolValue) → IsPlayed h p → p.closed ≢ true → Follows allows (spawner a) (spawner b) h.list → PoolRuns allows spawner a b sink o o status.Memory h
+open_runs allows spawner a b sink o h p is open_ follows = record {
   replay = played_replay h p is;
   safe = rw is.opening_is is.moves;
   follows = follows;
-  all_launched = λ told left c. open_pool_clash h p left is open_ c;
-  written = λ told text log. (0, sym (append-nil old));
+  all_launched = λ left c. open_pool_clash h p left is open_ c;
+  written = λ told. inl refl;
   all_written = λ told ends. elim ends [ inl e ↦ cc | inr e ↦ elim e [ inl d ↦ cc | inr d ↦ cc ] ];
   done = λ e. cc;
   done_comes = λ c quiet. open_pool_clash h p false is open_ c;
@@ -184,20 +171,18 @@ open_runs allows tells launches seen killed spawn_before spawn_now writes old ou
   out_fault = λ e. cc;
 }
 
--- A log that was made is the log: what was written of it is a front of the log.
-pub writes_part : (h : History) (made old new : List ℕ) → IsUserLog h made → (n : ℕ) × (new ≡ old ++ take n made) → WritesPart h old new
-writes_part h made old new is part text log = (part.0, part.1 ∙ ap (λ (t : List ℕ). old ++ take part.0 t) (same_log h.opening h.list made text is log))
+-- A log that was made is the log: what was written of it is a prefix of the log.
+pub writes_part : (h : History) (log old new : List ℕ) → IsUserLog h log → (n : ℕ) × (new ≡ old ++ take n log) → WritesPart h old new
+writes_part h log old new is part = inr (log, part.0, is, part.1)
 
 take_all : (xs : List ℕ) → take (length xs) xs ≡ xs
 take_all [] = refl
 take_all (x ∷ xs) = ap (λ (t : List ℕ). x ∷ t) (take_all xs)
 
-pub writes_whole : (h : History) (made old new : List ℕ) → IsUserLog h made → new ≡ old ++ made → WritesPart h old new
-writes_whole h made old new is whole text log =
-    let same : made ≡ text = same_log h.opening h.list made text is log in
-    (length text, whole ∙ (ap (λ (t : List ℕ). old ++ t) same ∙ ap (λ (t : List ℕ). old ++ t) (sym (take_all text))))
+pub writes_whole : (h : History) (log old new : List ℕ) → IsUserLog h log → new ≡ old ++ log → WritesPart h old new
+writes_whole h log old new is whole = inr (log, length log, is, whole ∙ ap (λ (t : List ℕ). old ++ t) (sym (take_all log)))
 
-pub printed_late : (left : Bool) (before now : ℕ) (s : Status) → IsPrinted left before now s → IsLate s
+pub printed_late : (left : Bool) (before now : ℕ) (s : Status) → IsPrinted left before now s → IsAfterFiles (stage_of s)
 printed_late left before now status.Done printed = tt
 printed_late left before now status.Usage printed = absurd printed
 printed_late left before now (status.Input file line kind) printed = absurd printed
@@ -208,16 +193,12 @@ printed_late left before now status.Memory printed = tt
 printed_late left before now (status.BadLog line) printed = absurd printed
 printed_late left before now (status.Limit which) printed = absurd printed
 
-pub early_no_end : (s : Status) → IsEarly s → IsNoEnd s
-early_no_end status.Done early = absurd early
-early_no_end status.Usage early = tt
-early_no_end (status.Input file line kind) early = tt
-early_no_end status.Stuck early = absurd early
-early_no_end status.DiskFault early = tt
-early_no_end status.OutFault early = absurd early
-early_no_end status.Memory early = tt
-early_no_end (status.BadLog line) early = tt
-early_no_end (status.Limit which) early = tt
+pub files_no_close : (s : Stage) → IsAtFiles s → s ≢ AfterClose
+files_no_close AtWords early = absurd early
+files_no_close AtFiles early = λ is. cc
+files_no_close AtAnyTime early = λ is. cc
+files_no_close AfterClose early = absurd early
+files_no_close Later early = absurd early
 
 -- the machine and the job are those of the files
 pub job_of_files : (file : List ℕ → Option (List ℕ)) (config submit name : List ℕ) (memory : ℕ) (program : List ℕ) (request : ℕ) (opening : Option PoolValue) (list : List Step) → IsInputOf file config submit name memory program request → OfJobFrom name memory program request opening list → OfFilesFrom file config submit opening list

@@ -1,12 +1,13 @@
 -- A file that is refused isn't accepted, and is refused in one way.
 use Rattle.std.proofs.Common.{◌≡◌, ◌∙◌, ◌⊎◌, inl, inr, ℕ, zero, suc, ◌+◌, ◌<◌, ◌≤◌, List, length, decimal, Option, Some, None, refl, sym, ap, subst, arith, slice_get}
 use Rattle.std.proofs.lemmas.Bool.{cases_order}
+use Rattle.pool_master.specs.declared.files.TheConstants.{MOST_BYTES}
 use Rattle.pool_master.specs.declared.status.Kind.{Kind}
 use Rattle.pool_master.specs.declared.status.Kind.TheVariants.{Missing, NotBuilt}
 use Rattle.pool_master.specs.declared.status.Status.{Status}
 use Rattle.pool_master.specs.declared.status.Status.TheVariants as status
 use Rattle.pool_master.specs.Forms.{Line, LineForm, Fits, IsFirstBad, IsConfig, IsSubmitFile, lines_of, config_forms, submit_forms}
-use Rattle.pool_master.specs.Input.{IsRefused, IsAccepted, IsConfigFile, IsJobFile, IsFileStatus, IsRefusedOf}
+use Rattle.pool_master.specs.Input.{IsFileRefused, IsAccepted, IsAnswer, IsConfigFile, IsJobFile, IsFileStatus, IsRefusedOf}
 
 config_fits : (bytes name : List ℕ) (memory : ℕ) → IsConfig bytes name memory → (k : ℕ) → Fits (slice_get config_forms k) (slice_get (lines_of bytes) k)
 config_fits bytes name memory is zero = rw is.lines (refl, (name, refl, is.name_is))
@@ -25,13 +26,13 @@ accepted_config file name memory is = record { bytes = is.bytes; there = is.ther
 pub accepted_job : (file : Option (List ℕ)) (program : List ℕ) (memory : ℕ) → IsJobFile file program memory → IsAccepted submit_forms file
 accepted_job file program memory is = record { bytes = is.bytes; there = is.there; short = is.short; fits = job_fits is.bytes program memory is.is }
 
-refused_bytes : (forms : List LineForm) (bytes : List ℕ) (number : ℕ) (kind : Kind) → length bytes ≤ 4096 → ((k : ℕ) → Fits (slice_get forms k) (slice_get (lines_of bytes) k)) → IsRefused forms (Some bytes) number kind → ⊥
+refused_bytes : (forms : List LineForm) (bytes : List ℕ) (number : ℕ) (kind : Kind) → length bytes ≤ MOST_BYTES → ((k : ℕ) → Fits (slice_get forms k) (slice_get (lines_of bytes) k)) → IsFileRefused forms (Some bytes) number kind → ⊥
 refused_bytes forms bytes number Missing short fits refused = refused
 refused_bytes forms bytes number NotBuilt short fits (inl long) = let l = long.0 in absurd (omega arith)
 refused_bytes forms bytes number NotBuilt short fits (inr bad) = bad.1.bad (fits bad.1.place)
 
-pub refused_accepted : (forms : List LineForm) (file : Option (List ℕ)) (number : ℕ) (kind : Kind) → IsAccepted forms file → IsRefused forms file number kind → ⊥
-refused_accepted forms file number kind is refused = refused_bytes forms is.bytes number kind is.short is.fits (subst (λ (f : Option (List ℕ)). IsRefused forms f number kind) is.there refused)
+pub refused_accepted : (forms : List LineForm) (file : Option (List ℕ)) (number : ℕ) (kind : Kind) → IsAccepted forms file → IsFileRefused forms file number kind → ⊥
+refused_accepted forms file number kind is refused = refused_bytes forms is.bytes number kind is.short is.fits (subst (λ (f : Option (List ℕ)). IsFileRefused forms f number kind) is.there refused)
 
 -- the first bad line is one line
 pub same_bad : (forms : List LineForm) (ls : List Line) (m n : ℕ) → IsFirstBad forms ls m → IsFirstBad forms ls n → m ≡ n
@@ -42,7 +43,7 @@ same_bad forms ls m n a b = at (cases_order a.place b.place)
     at (inr (inl less)) = absurd (a.bad (b.before a.place less))
     at (inr (inr more)) = absurd (b.bad (a.before b.place more))
 
-same_refusal : (forms : List LineForm) (file : Option (List ℕ)) (m n : ℕ) (j k : Kind) → IsRefused forms file m j → IsRefused forms file n k → (m ≡ n) × (j ≡ k)
+same_refusal : (forms : List LineForm) (file : Option (List ℕ)) (m n : ℕ) (j k : Kind) → IsFileRefused forms file m j → IsFileRefused forms file n k → (m ≡ n) × (j ≡ k)
 same_refusal forms None m n Missing Missing a b = (a ∙ sym b, refl)
 same_refusal forms None m n Missing NotBuilt a b = absurd b
 same_refusal forms None m n NotBuilt k a b = absurd a
@@ -53,11 +54,8 @@ same_refusal forms (Some bytes) m n NotBuilt NotBuilt (inl a) (inr b) = let p = 
 same_refusal forms (Some bytes) m n NotBuilt NotBuilt (inr a) (inl b) = let p = a.0 in let q = b.0 in absurd (omega arith)
 same_refusal forms (Some bytes) m n NotBuilt NotBuilt (inr a) (inr b) = (same_bad forms (lines_of bytes) m n a.1 b.1, refl)
 
-abbrev pub IsAnswer : List ℕ → ℕ → Kind → Status → Type 0
-IsAnswer name number kind s = (s ≡ status.Input name number kind) ⊎ ((s ≡ status.DiskFault) ⊎ (s ≡ status.Memory))
-
--- a status of a file that is refused says so, or tells of a fault or want of memory
-pub refused_status : (forms : List LineForm) (name : List ℕ) (file : Option (List ℕ)) (number : ℕ) (kind : Kind) (s : Status) → IsFileStatus forms name file s → IsRefused forms file number kind → IsAnswer name number kind s
+-- a status of a file that is refused says so, or tells of a fault or out of memory
+pub refused_status : (forms : List LineForm) (name : List ℕ) (file : Option (List ℕ)) (number : ℕ) (kind : Kind) (s : Status) → IsFileStatus forms name file s → IsFileRefused forms file number kind → IsAnswer name number kind s
 refused_status forms name file number kind status.Done is refused = absurd is
 refused_status forms name file number kind status.Usage is refused = absurd is
 refused_status forms name file number kind (status.Input f m k) is refused =
@@ -70,7 +68,7 @@ refused_status forms name file number kind status.Memory is refused = inr (inr r
 refused_status forms name file number kind (status.BadLog l) is refused = absurd is
 refused_status forms name file number kind (status.Limit w) is refused = absurd is
 
--- a status of a file that isn't refused tells of a fault or want of memory
+-- a status of a file that isn't refused tells of a fault or out of memory
 accepted_status : (forms : List LineForm) (name : List ℕ) (file : Option (List ℕ)) (s : Status) → IsFileStatus forms name file s → IsAccepted forms file → (s ≡ status.DiskFault) ⊎ (s ≡ status.Memory)
 accepted_status forms name file status.Done is accepted = absurd is
 accepted_status forms name file status.Usage is accepted = absurd is

@@ -2,6 +2,7 @@
 use Rattle.std.specs.Prelude.{◌≡◌, ℕ, ◌+◌, ◌<◌, ◌≤◌, ◌==◌, ◌&&◌, ◌||◌, nat_le, not, Bool, true, false, List, [], ◌∷◌, ◌++◌, length, codes, decimal, Option, Some, None, slice_get, if◌then◌else◌}
 use Rattle.std.specs.Char.{is_ascii_alphanumeric}
 use Rattle.std.specs.List.{AllPass}
+use Rattle.pool_master.specs.declared.form.TheConstants.{MOST_MEMORY, LONGEST_NAME}
 
 -- a line of a file, and whether a newline ends it
 pub record Line : Type 0 where
@@ -21,13 +22,13 @@ lines_of [] = []
 lines_of (b ∷ bs) = if b == 10 then line [] ∷ lines_of bs else with_byte b (lines_of bs)
 
 -- a letter, a digit, `_`, `-` or `.`
-abbrev pub is_name_byte : ℕ → Bool
-is_name_byte b = is_ascii_alphanumeric b || ((b == 95) || ((b == 45) || (b == 46)))
+abbrev pub is_machine_name_byte : ℕ → Bool
+is_machine_name_byte b = is_ascii_alphanumeric b || ((b == 95) || ((b == 45) || (b == 46)))
 
-pub record IsName (name : List ℕ) : Type 0 where
+pub record IsMachineName (name : List ℕ) : Type 0 where
   pub some : 0 < length name
-  pub short : length name ≤ 64
-  pub bytes : AllPass is_name_byte name
+  pub short : length name ≤ LONGEST_NAME
+  pub bytes : AllPass is_machine_name_byte name
 
 -- from `!` to `~`, and no `$`
 abbrev pub is_path_byte : ℕ → Bool
@@ -40,7 +41,7 @@ pub record IsPath (path : List ℕ) : Type 0 where
 -- an amount in MiB, in decimal digits without leading zeros
 pub record IsAmount (digits : List ℕ) (amount : ℕ) : Type 0 where
   pub is : digits ≡ decimal amount
-  pub small : amount ≤ 1000000000
+  pub small : amount ≤ MOST_MEMORY
 
 -- the lines that are built
 pub data LineForm : Type 0 where
@@ -69,7 +70,7 @@ abbrev pub request_memory_line : List ℕ → List ℕ
 request_memory_line digits = codes "request_memory = " ++ digits
 
 abbrev pub IsOfForm : LineForm → List ℕ → Type 0
-IsOfForm MachineLine text = (name : List ℕ) × (text ≡ machine_line name) × IsName name
+IsOfForm MachineLine text = (name : List ℕ) × (text ≡ machine_line name) × IsMachineName name
 IsOfForm MemoryLine text = (digits : List ℕ) × (text ≡ memory_line digits)
     × ((amount : ℕ) × IsAmount digits amount)
 IsOfForm ExecutableLine text = (path : List ℕ) × (text ≡ executable_line path) × IsPath path
@@ -78,7 +79,7 @@ IsOfForm RequestMemoryLine text = (digits : List ℕ) × (text ≡ request_memor
 IsOfForm QueueLine text = text ≡ codes "queue"
 
 -- the line that stands at a place is the one that is wanted there: it has its newline and is of
--- that form, and behind the last form there is no line
+-- that form, and after the last form there is no line
 abbrev pub Fits : Option LineForm → Option Line → Type 0
 Fits None None = Unit {0}
 Fits None (Some l) = ⊥
@@ -96,8 +97,8 @@ pub record IsFirstBad (forms : List LineForm) (lines : List Line) (number : ℕ)
 -- a configuration: a machine's name, and its memory in MiB
 pub record IsConfig (bytes name : List ℕ) (memory : ℕ) : Type 0 where
   pub lines : lines_of bytes ≡ line (machine_line name) ∷ line (memory_line (decimal memory)) ∷ []
-  pub name_is : IsName name
-  pub memory_is : memory ≤ 1000000000
+  pub name_is : IsMachineName name
+  pub memory_is : memory ≤ MOST_MEMORY
 
 -- a submit file: a program, and the memory in MiB that it asks for
 pub record IsSubmitFile (bytes program : List ℕ) (memory : ℕ) : Type 0 where
@@ -107,4 +108,4 @@ pub record IsSubmitFile (bytes program : List ℕ) (memory : ℕ) : Type 0 where
       ∷ line (codes "queue")
       ∷ []
   pub program_is : IsPath program
-  pub memory_is : memory ≤ 1000000000
+  pub memory_is : memory ≤ MOST_MEMORY

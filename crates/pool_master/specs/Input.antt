@@ -1,5 +1,6 @@
 -- What the run's two files are, and when one is refused.
 use Rattle.std.specs.Prelude.{◌≡◌, ◌⊎◌, ℕ, ◌<◌, ◌≤◌, List, length, Option, Some, None, slice_get}
+use Rattle.pool_master.specs.declared.files.TheConstants.{MOST_BYTES}
 use Rattle.pool_master.specs.declared.files.ReadError.{ReadError}
 use Rattle.pool_master.specs.declared.files.ReadError.TheVariants as read
 use Rattle.pool_master.specs.declared.form.FormError.{FormError}
@@ -13,40 +14,45 @@ use Rattle.pool_master.specs.Words.{IsRun}
 
 -- why a file is refused of which these lines are wanted: it isn't there, it is too long, or a line
 -- isn't of its form
-abbrev pub IsRefused : List LineForm → Option (List ℕ) → ℕ → Kind → Type 0
-IsRefused forms None line Missing = line ≡ 0
-IsRefused forms None line NotBuilt = ⊥
-IsRefused forms (Some bytes) line Missing = ⊥
-IsRefused forms (Some bytes) line NotBuilt = ((4096 < length bytes) × (line ≡ 0))
-    ⊎ ((length bytes ≤ 4096) × IsFirstBad forms (lines_of bytes) line)
+abbrev pub IsFileRefused : List LineForm → Option (List ℕ) → ℕ → Kind → Type 0
+IsFileRefused forms None line Missing = line ≡ 0
+IsFileRefused forms None line NotBuilt = ⊥
+IsFileRefused forms (Some bytes) line Missing = ⊥
+IsFileRefused forms (Some bytes) line NotBuilt = ((MOST_BYTES < length bytes) × (line ≡ 0))
+    ⊎ ((length bytes ≤ MOST_BYTES) × IsFirstBad forms (lines_of bytes) line)
 
 -- it is there, and each line is the one that is wanted
 pub record IsAccepted (forms : List LineForm) (file : Option (List ℕ)) : Type 0 where
   pub bytes : List ℕ
   pub there : file ≡ Some bytes
-  pub short : length bytes ≤ 4096
+  pub short : length bytes ≤ MOST_BYTES
   pub fits : (k : ℕ) → Fits (slice_get forms k) (slice_get (lines_of bytes) k)
 
 pub record IsConfigFile (file : Option (List ℕ)) (name : List ℕ) (memory : ℕ) : Type 0 where
   pub bytes : List ℕ
   pub there : file ≡ Some bytes
-  pub short : length bytes ≤ 4096
+  pub short : length bytes ≤ MOST_BYTES
   pub is : IsConfig bytes name memory
 
 pub record IsJobFile (file : Option (List ℕ)) (program : List ℕ) (memory : ℕ) : Type 0 where
   pub bytes : List ℕ
   pub there : file ≡ Some bytes
-  pub short : length bytes ≤ 4096
+  pub short : length bytes ≤ MOST_BYTES
   pub is : IsSubmitFile bytes program memory
+
+-- an answer to a refused file: the status that says so, or a fault of the disk or out of memory
+abbrev pub IsAnswer : List ℕ → ℕ → Kind → Status → Type 0
+IsAnswer name line kind s = (s ≡ status.Input name line kind)
+    ⊎ ((s ≡ status.DiskFault) ⊎ (s ≡ status.Memory))
 
 -- of a configuration and a submit file, that one is refused at that line; the submit file only
 -- where the configuration isn't
 abbrev pub IsRefusedOf : (List ℕ → Option (List ℕ)) → List ℕ → List ℕ → List ℕ → ℕ → Kind → Type 0
 IsRefusedOf file config submit name line kind =
-    ((name ≡ config) × IsRefused config_forms (file config) line kind)
+    ((name ≡ config) × IsFileRefused config_forms (file config) line kind)
     ⊎ ((name ≡ submit)
     × IsAccepted config_forms (file config)
-    × IsRefused submit_forms (file submit) line kind)
+    × IsFileRefused submit_forms (file submit) line kind)
 
 -- the same, of the files that the words name
 pub record IsRefusedInput (file : List ℕ → Option (List ℕ)) (words : List (List ℕ)) (name : List ℕ)
@@ -62,18 +68,6 @@ pub record IsInputOf (file : List ℕ → Option (List ℕ)) (config submit : Li
     (memory : ℕ) (program : List ℕ) (request : ℕ) : Type 0 where
   pub configured : IsConfigFile (file config) name memory
   pub submitted : IsJobFile (file submit) program request
-
--- the status of a run that ends before its pool is opened, but for its words
-abbrev pub IsEarly : Status → Type 0
-IsEarly status.Done = ⊥
-IsEarly status.Usage = ⊥
-IsEarly (status.Input file line kind) = Unit {0}
-IsEarly status.Stuck = ⊥
-IsEarly status.DiskFault = Unit {0}
-IsEarly status.OutFault = ⊥
-IsEarly status.Memory = Unit {0}
-IsEarly (status.BadLog line) = ⊥
-IsEarly (status.Limit which) = ⊥
 
 abbrev pub IsInputAt : List ℕ → ℕ → Kind → Status → Type 0
 IsInputAt name line kind s = (s ≡ status.Input name line kind) ⊎ (s ≡ status.Memory)
@@ -91,15 +85,10 @@ IsFormStatus name (form.Line line) s = IsInputAt name line NotBuilt s
 IsFormStatus name form.Memory s = s ≡ status.Memory
 
 -- a status of a file of that name and content: refused at that line, or a fault of the disk, which
--- has that cause, or want of memory
+-- has that cause, or out of memory
 abbrev pub IsFileStatus : List LineForm → List ℕ → Option (List ℕ) → Status → Type 0
-IsFileStatus forms name file status.Done = ⊥
-IsFileStatus forms name file status.Usage = ⊥
 IsFileStatus forms name file (status.Input f line kind) = (f ≡ name)
-    × IsRefused forms file line kind
-IsFileStatus forms name file status.Stuck = ⊥
+    × IsFileRefused forms file line kind
 IsFileStatus forms name file status.DiskFault = Unit {0}
-IsFileStatus forms name file status.OutFault = ⊥
 IsFileStatus forms name file status.Memory = Unit {0}
-IsFileStatus forms name file (status.BadLog line) = ⊥
-IsFileStatus forms name file (status.Limit which) = ⊥
+IsFileStatus forms name file _ = ⊥

@@ -1,10 +1,11 @@
 pub mod Status
 pub mod Words
-pub mod Files
+pub mod ReadErrors
 pub mod Forms
 pub mod Input
 pub mod Made
 pub mod Runs
+pub mod Seen
 pub mod Follows
 pub mod UserLog
-pub mod Run
+pub mod WholeRun

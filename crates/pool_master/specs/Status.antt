@@ -1,4 +1,4 @@
--- What a status prints, and its number.
+-- When a status comes, what it prints, and its number.
 use Rattle.std.specs.Prelude.{ℕ, List, [], ◌++◌, codes, decimal}
 use Rattle.pool_outer.specs.declared.limit.Which.{Which}
 use Rattle.pool_outer.specs.declared.limit.Which.TheVariants as which
@@ -38,13 +38,55 @@ line_of (status.BadLog line) = codes "log: line " ++ decimal line
 line_of (status.Limit which) = codes "limit: " ++ limit_name which
 
 -- the exit status
-abbrev pub number_of : Status → ℕ
-number_of status.Done = 0
-number_of status.Usage = 1
-number_of (status.Input file line kind) = 2
-number_of status.Stuck = 3
-number_of status.DiskFault = 4
-number_of status.OutFault = 5
-number_of status.Memory = 6
-number_of (status.BadLog line) = 7
-number_of (status.Limit which) = 8
+abbrev pub status_number : Status → ℕ
+status_number status.Done = 0
+status_number status.Usage = 1
+status_number (status.Input file line kind) = 2
+status_number status.Stuck = 3
+status_number status.DiskFault = 4
+status_number status.OutFault = 5
+status_number status.Memory = 6
+status_number (status.BadLog line) = 7
+status_number (status.Limit which) = 8
+
+-- when a run ends with a status
+pub data Stage : Type 0 where
+  AtWords : Stage
+  AtFiles : Stage
+  AtAnyTime : Stage
+  AfterClose : Stage
+  -- no run of today's pool, which has no queue log and no limits
+  Later : Stage
+
+abbrev pub stage_of : Status → Stage
+stage_of status.Done = AfterClose
+stage_of status.Usage = AtWords
+stage_of (status.Input file line kind) = AtFiles
+stage_of status.Stuck = AfterClose
+stage_of status.DiskFault = AtFiles
+stage_of status.OutFault = AfterClose
+stage_of status.Memory = AtAnyTime
+stage_of (status.BadLog line) = Later
+stage_of (status.Limit which) = Later
+
+-- before a pool is opened, and only then
+abbrev pub IsBeforePool : Stage → Type 0
+IsBeforePool AtWords = Unit {0}
+IsBeforePool AtFiles = Unit {0}
+IsBeforePool _ = ⊥
+
+-- while the files are read
+abbrev pub IsAtFiles : Stage → Type 0
+IsAtFiles AtFiles = Unit {0}
+IsAtFiles AtAnyTime = Unit {0}
+IsAtFiles _ = ⊥
+
+-- once the files were read
+abbrev pub IsAfterFiles : Stage → Type 0
+IsAfterFiles AfterClose = Unit {0}
+IsAfterFiles AtAnyTime = Unit {0}
+IsAfterFiles _ = ⊥
+
+abbrev pub IsToday : Stage → Type 0
+IsToday Later = ⊥
+IsToday _ = Unit {0}

@@ -17,13 +17,16 @@ use Rattle.pool_core.specs.PoolValue.{PoolValue, slot_at}
 use Rattle.pool_core.specs.Reactions.{clusters_after}
 use Rattle.pool_master.specs.Runs.{is_not_started}
 
+abbrev pub nanos_per_second : ℤ
+nanos_per_second = pos 1000000000
+
 -- `YYYY-MM-DD HH:MM:SS`, the civil date and time of the reading in UTC
 pub record IsStamp (reading : ℕ) (text : List ℕ) : Type 0 where
   pub civil : DateTime
-  pub is : civil_nanos civil ≡ pos reading *ℤ pos 1000000000
+  pub is : civil_nanos civil ≡ pos reading *ℤ nanos_per_second
   pub shown : text ≡ date_text civil.date ++ 32 ∷ time_text None civil.time
 
--- in decimal, with zeros in front up to three digits
+-- in decimal, with zeros before it up to three digits
 abbrev pub three_digits : ℕ → List ℕ
 three_digits n = if nat_lt n 10 then codes "00" ++ decimal n
     else (if nat_lt n 100 then codes "0" ++ decimal n else decimal n)
@@ -34,11 +37,11 @@ numbers_text cluster proc = codes "("
     ++ (three_digits cluster ++ (codes "." ++ (three_digits proc ++ codes ".000)")))
 
 -- an event of the log: its number, the job's numbers, the date and time, and what it says
-pub record IsEntry (number : List ℕ) (cluster proc reading : ℕ) (said text : List ℕ) : Type 0 where
+pub record IsEntry (number : List ℕ) (cluster proc reading : ℕ) (what text : List ℕ) : Type 0 where
   pub stamp : List ℕ
   pub stamp_is : IsStamp reading stamp
   pub is : text ≡ number
-      ++ (codes " " ++ (numbers_text cluster proc ++ (codes " " ++ (stamp ++ (codes " " ++ said)))))
+      ++ (codes " " ++ (numbers_text cluster proc ++ (codes " " ++ (stamp ++ (codes " " ++ what)))))
 
 abbrev pub submitted_text : List ℕ
 submitted_text = codes "Job submitted from host: <pool>\n...\n"
@@ -67,8 +70,8 @@ abbrev pub name_in : Option SlotAd → List ℕ
 name_in None = []
 name_in (Some s) = s.name
 
-abbrev pub name_of : List SlotAd → SlotId → List ℕ
-name_of slots slot = name_in (slot_at slot slots)
+abbrev pub slot_name_at : List SlotAd → SlotId → List ℕ
+slot_name_at slots slot = name_in (slot_at slot slots)
 
 abbrev pub next_end : JobId → Event → Bool → Bool
 next_end job (Submit jobs reading) later = later
@@ -77,7 +80,7 @@ next_end job (Ended other end reading) later =
     if same_job job other then is_not_started end else later
 next_end job (Close reading none) later = later
 
--- the job's run that is on before these events ends as one that didn't start
+-- the job's run that is running before these events ends as one that didn't start
 abbrev pub never_starts : JobId → List Step → Bool
 never_starts job [] = false
 never_starts job (s ∷ ss) = next_end job s.event (never_starts job ss)
@@ -110,14 +113,14 @@ IsEndLines NotStarted job reading text =
     IsEntry (codes "012") job.cluster job.proc reading held_text text
 
 -- what an event prints in a pool of these slots, before which so many clusters were submitted, and
--- behind which these steps come
+-- after which these steps come
 abbrev pub IsLines : List SlotAd → ℕ → List Step → Event → List ℕ → Type 0
-IsLines slots clusters behind (Submit jobs reading) text =
+IsLines slots clusters after (Submit jobs reading) text =
     IsSubmitLines (clusters + 1) (length jobs) reading text
-IsLines slots clusters behind (Start job slot judged reading) text =
-    IsStartLines (never_starts job behind) job (name_of slots slot) reading text
-IsLines slots clusters behind (Ended job end reading) text = IsEndLines end job reading text
-IsLines slots clusters behind (Close reading none) text = text ≡ []
+IsLines slots clusters after (Start job slot judged reading) text =
+    IsStartLines (never_starts job after) job (slot_name_at slots slot) reading text
+IsLines slots clusters after (Ended job end reading) text = IsEndLines end job reading text
+IsLines slots clusters after (Close reading none) text = text ≡ []
 
 -- how many clusters were submitted, with an event
 abbrev pub clusters_with : ℕ → Event → ℕ

@@ -28,7 +28,7 @@ pub enum ReadError {
 
 impl From<StoreError> for ReadError {
     ghost use Rattle.std.specs.Prelude.{◌≡◌};
-    ghost use Rattle.pool_master.specs.Files.{read_error};
+    ghost use Rattle.pool_master.specs.ReadErrors.{read_error};
 
     ghost from_gives = { λ e r. r ≡ read_error e };
 
@@ -54,6 +54,7 @@ impl From<AllocError> for ReadError {
 
 /// All the bytes of a file, of at most 4,096 bytes.
 pub fn read_file<D: Store>(alloc: Global, store: &mut D, name: &str) -> Result<Vec<u8>, ReadError>
+    // What is answered of the file.
     ensures bytes { D.tells store.old ≡ true
         → IfOk result (λ bytes. D.file store.old name.now ≡ Some bytes.items) }
     ensures short { IfOk result (λ bytes. length bytes.items ≤ MOST_BYTES) }
@@ -61,6 +62,8 @@ pub fn read_file<D: Store>(alloc: Global, store: &mut D, name: &str) -> Result<V
         → D.file store.old name.now ≡ None }
     ensures too_long { D.tells store.old ≡ true → IsErrOf result ReadError.TooLong
         → (n : ℕ) × (option_map length (D.file store.old name.now) ≡ Some n) × (MOST_BYTES < n) }
+
+    // The store.
     ensures same { D.tells store.old ≡ true
         → SameFiles (D.file store.old) (D.file store.new) (D.solid store.old) (D.solid store.new) }
     ensures told { D.tells store.new ≡ D.tells store.old }

@@ -1,7 +1,7 @@
 ghost use Rattle.std.specs.Prelude.{◌≡◌, ◌≢◌, ◌≤◌, ◌<◌, ◌^◌, ◌++◌, ◌∷◌, ◌==◌, [], ℕ, List, false, Some, None, IfOk, IfErr, IsTrue, ◌↔◌, MatchOption, codes, decimal, slice_get};
 ghost use Rattle.std.specs.List.{position};
 ghost use Rattle.std.specs.Str.{IsUtf8};
-ghost use Rattle.pool_master.specs.Forms.{LineForm, MachineLine, MemoryLine, ExecutableLine, RequestMemoryLine, QueueLine, config_forms, submit_forms, IsConfig, IsSubmitFile, IsFirstBad, IsName, IsPath, IsAmount, Fits, Line, lines_of, line, machine_line, memory_line, executable_line, request_memory_line};
+ghost use Rattle.pool_master.specs.Forms.{LineForm, MachineLine, MemoryLine, ExecutableLine, RequestMemoryLine, QueueLine, config_forms, submit_forms, IsConfig, IsSubmitFile, IsFirstBad, IsMachineName, IsPath, IsAmount, Fits, Line, lines_of, line, machine_line, memory_line, executable_line, request_memory_line};
 
 use ad_value::{Memory, Text};
 use itoa::Buffer;
@@ -9,7 +9,10 @@ use std::alloc::Global;
 use thiserror::Error;
 
 /// The most MiB of an amount.
-const MOST_MEMORY: u64 = 1_000_000_000;
+pub const MOST_MEMORY: u64 = 1_000_000_000;
+
+/// The most bytes of a machine's name.
+const LONGEST_NAME: usize = 64;
 
 /// What a configuration says: a machine of that name, with one slot of that many MiB.
 #[derive(Debug, Drop)]
@@ -48,7 +51,7 @@ impl From<Memory> for FormError {
 /// The configuration that a file's bytes are: the lines `MACHINE = NAME` and `MEMORY = N`.
 pub fn config_of(alloc: Global, bytes: &[u8]) -> Result<Config, FormError>
     ensures ok { IfOk result (λ c. IsConfig bytes.now c.name c.memory) }
-    ensures small { IfOk result (λ c. c.memory ≤ 1000000000) }
+    ensures small { IfOk result (λ c. c.memory ≤ MOST_MEMORY) }
     ensures bad { IfErr result (λ e. (n : ℕ) → e ≡ FormError.Line n
         → IsFirstBad config_forms (lines_of bytes.now) n) }
 {
@@ -71,7 +74,7 @@ pub fn config_of(alloc: Global, bytes: &[u8]) -> Result<Config, FormError>
 /// and `queue`.
 pub fn submit_of(alloc: Global, bytes: &[u8]) -> Result<SubmitFile, FormError>
     ensures ok { IfOk result (λ s. IsSubmitFile bytes.now s.program s.memory) }
-    ensures small { IfOk result (λ s. s.memory ≤ 1000000000) }
+    ensures small { IfOk result (λ s. s.memory ≤ MOST_MEMORY) }
     ensures bad { IfErr result (λ e. (n : ℕ) → e ≡ FormError.Line n
         → IsFirstBad submit_forms (lines_of bytes.now) n) }
 {
@@ -98,10 +101,10 @@ fn machine(bytes: &[u8]) -> Option<(&str, &[u8])>
     ensures { MatchOption result
         (Fits (Some MachineLine) (slice_get (lines_of bytes.now) 0) → ⊥)
         (λ p. (lines_of bytes.now ≡ line (machine_line p.0.now) ∷ lines_of p.1.now)
-        × IsName p.0.now) }
+        × IsMachineName p.0.now) }
 {
     let (name, rest) = value(bytes, b"MACHINE = ")?;
-    if !is_name(name) {
+    if !is_machine_name(name) {
         return None;
     }
     Some((text_of(name)?, rest))
@@ -121,16 +124,16 @@ fn executable(bytes: &[u8]) -> Option<(&str, &[u8])>
     Some((text_of(path)?, rest))
 }
 
-// The amount behind that name on the first line, and what follows the line.
+// The amount after that name on the first line, and what follows the line.
 fn amount<'a>(bytes: &'a [u8], name: &[u8]) -> Option<(u64, &'a [u8])>
     ensures { MatchOption result
         ((digits : List ℕ) (n : ℕ) → IsAmount digits n
         → (rest : List Line) → lines_of bytes.now ≢ line (name.now ++ digits) ∷ rest)
         (λ p. (lines_of bytes.now ≡ line (name.now ++ decimal p.0) ∷ lines_of p.1.now)
-        × (p.0 ≤ 1000000000)) }
+        × (p.0 ≤ MOST_MEMORY)) }
 {
     let (digits, rest) = value(bytes, name)?;
-    Some((number(digits)?, rest))
+    Some((number_in(digits)?, rest))
 }
 
 // What follows the line `queue`.
@@ -143,7 +146,7 @@ fn queue(bytes: &[u8]) -> Option<&[u8]>
     if value.is_empty() { Some(rest) } else { None }
 }
 
-// What stands behind that name on the first line, and what follows the line.
+// What stands after that name on the first line, and what follows the line.
 fn value<'a>(bytes: &'a [u8], name: &[u8]) -> Option<(&'a [u8], &'a [u8])>
     ensures { MatchOption result
         ((value : List ℕ) (rest : List Line) → lines_of bytes.now ≢ line (name.now ++ value) ∷ rest)
@@ -179,11 +182,11 @@ fn newline(bytes: &[u8]) -> Option<usize>
 }
 
 // The amount that these digits are.
-fn number(digits: &[u8]) -> Option<u64>
+fn number_in(digits: &[u8]) -> Option<u64>
     ensures { MatchOption result ((n : ℕ) → IsAmount digits.now n → ⊥) (IsAmount digits.now) }
 {
     let text = text_of(digits)?;
-    let number = parsed(text)?;
+    let number = value_of(text)?;
     if is_amount(text, number) {
         Some(number)
     } else {
@@ -200,7 +203,7 @@ fn is_amount(text: &str, amount: u64) -> bool
 }
 
 // The number that a text reads as; at least each number's own numeral does.
-fn parsed(text: &str) -> Option<u64>
+fn value_of(text: &str) -> Option<u64>
     ensures { (n : ℕ) → n < 2 ^ 64 → text.now ≡ decimal n → result ≡ Some n }
 {
     text.parse::<u64>().ok()
@@ -212,11 +215,11 @@ fn text_of(bytes: &[u8]) -> Option<&str>
     std::str::from_utf8(bytes).ok()
 }
 
-fn is_name(name: &[u8]) -> bool
-    ensures { IsTrue result ↔ IsName name.now }
+fn is_machine_name(name: &[u8]) -> bool
+    ensures { IsTrue result ↔ IsMachineName name.now }
 {
-    let is_name_byte = |b: &u8| b.is_ascii_alphanumeric() || *b == b'_' || *b == b'-' || *b == b'.';
-    !name.is_empty() && name.len() <= 64 && name.iter().all(is_name_byte)
+    let is_allowed = |b: &u8| b.is_ascii_alphanumeric() || *b == b'_' || *b == b'-' || *b == b'.';
+    !name.is_empty() && name.len() <= LONGEST_NAME && name.iter().all(is_allowed)
 }
 
 fn is_path(path: &[u8]) -> bool

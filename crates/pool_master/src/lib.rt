@@ -3,7 +3,7 @@
 
 mod files;
 mod form;
-mod laws;
+pub mod laws;
 mod load;
 mod made;
 mod output;
@@ -14,8 +14,5 @@ mod status;
 mod user_log;
 mod words;
 
-pub use laws::{
-    a_job_fits_where_its_memory_does, first_bad_line_is_determined, user_log_is_determined,
-};
-pub use run::{Ran, run_pool};
+pub use run::{MACHINES, Ran, run_pool};
 pub use status::{Kind, Status};

@@ -2,10 +2,11 @@ ghost use Rattle.std.specs.Prelude.{◌≡◌, ◌≤◌, ◌⊎◌, ℕ, List, 
 ghost use Rattle.pool_outer.specs.Cause.{Rose};
 ghost use Rattle.pool_outer.specs.Files.{SameFiles};
 ghost use Rattle.pool_master.specs.Forms.{config_forms, submit_forms};
-ghost use Rattle.pool_master.specs.Input.{IsConfigFile, IsJobFile, IsEarly, IsInputAt, IsReadStatus, IsFormStatus, IsFileStatus};
+ghost use Rattle.pool_master.specs.Input.{IsConfigFile, IsJobFile, IsInputAt, IsReadStatus, IsFormStatus, IsFileStatus};
+ghost use Rattle.pool_master.specs.Status.{stage_of, IsAtFiles};
 
 use crate::files::{ReadError, read_file};
-use crate::form::{Config, FormError, SubmitFile, config_of, submit_of};
+use crate::form::{Config, FormError, MOST_MEMORY, SubmitFile, config_of, submit_of};
 use crate::status::{Kind, Status};
 use ad_value::Text;
 use pool_outer::Store;
@@ -13,14 +14,17 @@ use std::alloc::Global;
 
 /// Reads a configuration; its status says why where it can't be had.
 pub fn load_config<D: Store>(alloc: Global, store: &mut D, name: &str) -> Result<Config, Status>
+    // What is answered of the file.
     ensures ok { D.tells store.old ≡ true
         → IfOk result (λ c. IsConfigFile (D.file store.old name.now) c.name c.memory) }
-    ensures small { IfOk result (λ c. c.memory ≤ 1000000000) }
+    ensures small { IfOk result (λ c. c.memory ≤ MOST_MEMORY) }
     ensures status { D.tells store.old ≡ true
         → IfErr result (IsFileStatus config_forms name.now (D.file store.old name.now)) }
-    ensures early { IfErr result IsEarly }
+    ensures early { IfErr result (λ s. IsAtFiles (stage_of s)) }
     ensures disk_fault { IfErr result
         (λ s. s ≡ Status.DiskFault → Rose (D.faults store.old) (D.faults store.new)) }
+
+    // The store.
     ensures same { D.tells store.old ≡ true
         → SameFiles (D.file store.old) (D.file store.new) (D.solid store.old) (D.solid store.new) }
     ensures told { D.tells store.new ≡ D.tells store.old }
@@ -37,14 +41,17 @@ pub fn load_config<D: Store>(alloc: Global, store: &mut D, name: &str) -> Result
 
 /// Reads a submit file; its status says why where it can't be had.
 pub fn load_submit<D: Store>(alloc: Global, store: &mut D, name: &str) -> Result<SubmitFile, Status>
+    // What is answered of the file.
     ensures ok { D.tells store.old ≡ true
         → IfOk result (λ f. IsJobFile (D.file store.old name.now) f.program f.memory) }
-    ensures small { IfOk result (λ f. f.memory ≤ 1000000000) }
+    ensures small { IfOk result (λ f. f.memory ≤ MOST_MEMORY) }
     ensures status { D.tells store.old ≡ true
         → IfErr result (IsFileStatus submit_forms name.now (D.file store.old name.now)) }
-    ensures early { IfErr result IsEarly }
+    ensures early { IfErr result (λ s. IsAtFiles (stage_of s)) }
     ensures disk_fault { IfErr result
         (λ s. s ≡ Status.DiskFault → Rose (D.faults store.old) (D.faults store.new)) }
+
+    // The store.
     ensures same { D.tells store.old ≡ true
         → SameFiles (D.file store.old) (D.file store.new) (D.solid store.old) (D.solid store.new) }
     ensures told { D.tells store.new ≡ D.tells store.old }

@@ -1,7 +1,7 @@
 ghost use Rattle.std.specs.Prelude.{◌≡◌, ◌<◌, ◌^◌, ◌++◌, [], ℕ, Bool, IfOk, All, codes};
 ghost use Rattle.ad_tree.specs.Tree.{tree, reference};
 ghost use Rattle.ad_tree.specs.declared.operator.Scope.{Scope};
-ghost use Rattle.pool_master.specs.Made.{machine_slot, slot_ad, job_ad, slot_name, whole, said, at_least, enough, given_tree, with_rows};
+ghost use Rattle.pool_master.specs.Made.{machine_slot, slot_ad, job_ad, slot_name, integer_literal, text_literal, at_least, enough, given_tree, with_rows};
 
 use ad_tree::{Ad, BinOp, Expr, Rest, RestList, Scope};
 use ad_value::{Memory, Text, Value};
@@ -12,10 +12,10 @@ use std::alloc::Global;
 /// ad has what this one asks for.
 #[derive(Clone, Copy, Debug)]
 pub(crate) enum Given<'a> {
-    Whole(u64),
-    Said(&'a str),
+    Integer(u64),
+    Text(&'a str),
     Truth(bool),
-    Named(&'a str),
+    Name(&'a str),
     Enough,
 }
 
@@ -48,18 +48,18 @@ pub fn slot_ad<'a>(
     ensures { IfOk result (λ a. a ≡ slot_ad machine.now memory) }
 {
     let rows = [
-        ("MyType", Given::Said("Machine")),
-        ("Name", Given::Said(name)),
-        ("Machine", Given::Said(machine)),
-        ("SlotID", Given::Whole(1)),
-        ("OpSys", Given::Said("LINUX")),
-        ("Arch", Given::Said("X86_64")),
-        ("Cpus", Given::Whole(1)),
-        ("Memory", Given::Whole(memory)),
-        ("Disk", Given::Whole(1_048_576)),
+        ("MyType", Given::Text("Machine")),
+        ("Name", Given::Text(name)),
+        ("Machine", Given::Text(machine)),
+        ("SlotID", Given::Integer(1)),
+        ("OpSys", Given::Text("LINUX")),
+        ("Arch", Given::Text("X86_64")),
+        ("Cpus", Given::Integer(1)),
+        ("Memory", Given::Integer(memory)),
+        ("Disk", Given::Integer(1_048_576)),
         ("Start", Given::Truth(true)),
-        ("Requirements", Given::Named("Start")),
-        ("Rank", Given::Whole(0)),
+        ("Requirements", Given::Name("Start")),
+        ("Rank", Given::Integer(0)),
     ];
     ad_of(alloc, &rows)
 }
@@ -71,31 +71,31 @@ pub fn job_ad(alloc: Global, program: &str, request: u64, reading: u64) -> Resul
     ensures { IfOk result (λ a. a ≡ job_ad program.now request reading) }
 {
     let rows = [
-        ("ClusterId", Given::Whole(1)),
-        ("ProcId", Given::Whole(0)),
-        ("Owner", Given::Said("user")),
-        ("QDate", Given::Whole(reading)),
-        ("JobUniverse", Given::Whole(5)),
-        ("JobStatus", Given::Whole(1)),
-        ("Cmd", Given::Said(program)),
-        ("Args", Given::Said("")),
-        ("Iwd", Given::Said("")),
-        ("In", Given::Said("")),
-        ("Out", Given::Said("")),
-        ("Err", Given::Said("")),
-        ("JobPrio", Given::Whole(0)),
+        ("ClusterId", Given::Integer(1)),
+        ("ProcId", Given::Integer(0)),
+        ("Owner", Given::Text("user")),
+        ("QDate", Given::Integer(reading)),
+        ("JobUniverse", Given::Integer(5)),
+        ("JobStatus", Given::Integer(1)),
+        ("Cmd", Given::Text(program)),
+        ("Args", Given::Text("")),
+        ("Iwd", Given::Text("")),
+        ("In", Given::Text("")),
+        ("Out", Given::Text("")),
+        ("Err", Given::Text("")),
+        ("JobPrio", Given::Integer(0)),
         ("Requirements", Given::Enough),
-        ("Rank", Given::Whole(0)),
-        ("RequestCpus", Given::Whole(1)),
-        ("RequestMemory", Given::Whole(request)),
-        ("RequestDisk", Given::Whole(1024)),
+        ("Rank", Given::Integer(0)),
+        ("RequestCpus", Given::Integer(1)),
+        ("RequestMemory", Given::Integer(request)),
+        ("RequestDisk", Given::Integer(1024)),
     ];
     ad_of(alloc, &rows)
 }
 
 // The ad with the rows of a table.
 fn ad_of(alloc: Global, rows: &[Row<'_>]) -> Result<Ad, Memory>
-    requires { All (λ r. (n : ℕ) → r.1 ≡ Given.Whole n → n < 2 ^ 63) rows.now }
+    requires { All (λ r. (n : ℕ) → r.1 ≡ Given.Integer n → n < 2 ^ 63) rows.now }
     ensures { IfOk result (λ a. a ≡ with_rows rows.now []) }
 {
     let mut ad = Ad::new(alloc);
@@ -109,19 +109,19 @@ fn ad_of(alloc: Global, rows: &[Row<'_>]) -> Result<Ad, Memory>
 }
 
 fn expr_of(alloc: Global, given: Given<'_>) -> Result<Expr, Memory>
-    requires { (n : ℕ) → given ≡ Given.Whole n → n < 2 ^ 63 }
+    requires { (n : ℕ) → given ≡ Given.Integer n → n < 2 ^ 63 }
     ensures { IfOk result (λ e. tree e ≡ given_tree given.entry) }
 {
     match given {
-        Given::Whole(n) => Ok(Expr::Lit(Value::Int(n as i64))),
-        Given::Said(text) => Ok(Expr::Lit(Value::Str(Text::from_str(alloc, text)?))),
+        Given::Integer(n) => Ok(Expr::Lit(Value::Int(n as i64))),
+        Given::Text(text) => Ok(Expr::Lit(Value::Str(Text::from_str(alloc, text)?))),
         Given::Truth(truth) => Ok(Expr::Lit(Value::Bool(truth))),
-        Given::Named(name) => name_of(alloc, Scope::Bare, name),
+        Given::Name(name) => reference_to(alloc, Scope::Bare, name),
         Given::Enough => enough(alloc),
     }
 }
 
-fn name_of(alloc: Global, scope: Scope, name: &str) -> Result<Expr, Memory>
+fn reference_to(alloc: Global, scope: Scope, name: &str) -> Result<Expr, Memory>
     ensures { IfOk result (λ e. tree e ≡ reference scope name.now) }
 {
     Ok(Expr::Ref {
@@ -157,8 +157,8 @@ fn enough(alloc: Global) -> Result<Expr, Memory>
 fn at_least(alloc: Global, name: &str, request: &str) -> Result<Expr, Memory>
     ensures { IfOk result (λ e. tree e ≡ at_least name.now request.now) }
 {
-    let first = Box::new(alloc, name_of(alloc, Scope::Target, name)?)?;
-    let arg = name_of(alloc, Scope::Bare, request)?;
+    let first = Box::new(alloc, reference_to(alloc, Scope::Target, name)?)?;
+    let arg = reference_to(alloc, Scope::Bare, request)?;
     let mut items = Vec::new(alloc);
     items.push(Rest {
         op: BinOp::GreaterEqual,

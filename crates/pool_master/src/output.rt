@@ -3,7 +3,7 @@ ghost use Rattle.pool_outer.specs.Cause.{Rose};
 
 use pool_outer::{Sink, SinkError};
 
-/// Writes all of the bytes; a fault leaves a front of them written.
+/// Writes all of the bytes; a fault leaves a prefix of them written.
 pub fn write_all<K: Sink>(out: &mut K, bytes: &[u8]) -> Result<(), SinkError>
     ensures written { K.tells out.old ≡ true
         → OnOk result (K.written out.new ≡ K.written out.old ++ bytes.now) }

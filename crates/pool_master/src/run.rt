@@ -1,31 +1,34 @@
-ghost use Rattle.std.specs.Prelude.{IsErrAnd, ◌≡◌, ◌≢◌, ◌≤◌, ◌⊎◌, ◌↔◌, ◌++◌, ◌∷◌, [], ℕ, List, Bool, true, false, None, Some, All, OnOk, OnErr, IfOk, IfErr, length, slice_get};
+ghost use Rattle.std.specs.Prelude.{IsErrAnd, ◌≡◌, ◌≢◌, ◌≤◌, ◌⊎◌, ◌↔◌, ◌∷◌, [], ℕ, List, Bool, true, false, None, All, IfOk, IfErr, length, slice_get};
 ghost use Rattle.pool_outer.specs.Cause.{Rose, RoseBy};
 ghost use Rattle.pool_outer.specs.Files.{SameFiles};
-ghost use Rattle.pool_core.specs.Events.{reading_of};
 ghost use Rattle.pool_core.specs.Reactions.{opening_pool};
 ghost use Rattle.pool_master.specs.declared.status.Kind.{Kind};
-ghost use Rattle.pool_master.specs.Words.{IsNoRun, IsRun, texts};
-ghost use Rattle.pool_master.specs.Input.{IsRefusedInput, IsRefusedOf, IsInputOf, IsEarly};
-ghost use Rattle.pool_master.specs.Runs.{IsLaunched, EndAsSeen, started_runs, launches_of, not_started_count};
-ghost use Rattle.pool_master.specs.Follows.{AreRead, Follows, AreNumberedOnce};
+ghost use Rattle.pool_master.specs.Words.{IsNoRun, texts};
+ghost use Rattle.pool_master.specs.Input.{IsRefusedInput, IsRefusedOf, IsInputOf, IsAnswer};
+ghost use Rattle.pool_master.specs.Runs.{IsLaunched, EndAsSeen, child_runs, run_launches, not_started_count};
+ghost use Rattle.pool_master.specs.Seen.{spawner_seen, sink_seen};
+ghost use Rattle.pool_master.specs.Follows.{AreRead, AreReadings, IsChildCount};
 ghost use Rattle.pool_master.specs.Made.{machine_slot};
-ghost use Rattle.pool_master.specs.UserLog.{IsUserLog};
-ghost use Rattle.pool_master.specs.Run.{IsClosed, IsReplay, IsSafe, OfInputFrom, OfFilesFrom, OfJobFrom, WritesPart, WritesAll, PoolRuns, EndsEarly, HasNothing, IsStatusToday, IsLate, IsPrinted, job_left};
+ghost use Rattle.pool_master.specs.Status.{stage_of, IsBeforePool, IsAtFiles, IsAfterFiles, IsToday};
+ghost use Rattle.pool_master.specs.WholeRun.{IsClosed, IsReplay, IsSafe, OfInputFrom, OfFilesFrom, OfJobFrom, WritesPart, WritesAll, AtMachine, PoolRuns, HasNothing, IsPrinted, job_left};
 
-use crate::form::{Config, SubmitFile};
+use crate::form::{Config, MOST_MEMORY, SubmitFile};
 use crate::load::{load_config, load_submit};
 use crate::made::machine_slot;
 use crate::output::write_all;
 use crate::play::play;
 use crate::status::Status;
 use crate::user_log::log_text;
-use crate::words::{Named, named_by};
+use crate::words::{Named, files_in};
 use ad_value::Memory;
 use pool_core::{Course, Event, History, Pool, SlotAdList, StepList};
 use pool_outer::{Clock, Gate, Sink, Spawner, Store};
 use std::alloc::Global;
 use std::sync::Wait;
 use std::thread::Threads;
+
+/// How many machines a pool may have; machine m launches on spawner m.
+pub const MACHINES: usize = 64;
 
 /// What a run leaves.
 pub struct Ran<D, P> {
@@ -59,34 +62,38 @@ pub fn run_pool<
     _secret_key: u64,
     out: &mut K,
 ) -> Ran<D, P>
-    requires machines { length spawners.items ≡ 64 }
+    requires machines { length spawners.items ≡ MACHINES }
     requires idle { All (λ s. P.count s ≡ 0) spawners.items }
 
+    // The history.
     ensures history { IsReplay result.history }
     ensures history_input { D.tells store ≡ true
         → OfInputFrom (D.file store) (texts words.now) result.history.opening result.history.list }
     ensures history_readings { AreRead (C.allows clock.now) result.history.list }
     ensures safe { IsSafe result.history }
+    ensures refused { result.refused ≡ None }
 
-    ensures launched { (s t : P) → slice_get spawners.items 0 ≡ Some s
-        → slice_get result.spawners.items 0 ≡ Some t → P.tells s ≡ true
-        → IsLaunched result.history.list (P.launches t) }
-    ensures all_launched { (s t : P) → slice_get spawners.items 0 ≡ Some s
-        → slice_get result.spawners.items 0 ≡ Some t → P.tells s ≡ true → (left : Bool)
-        → IsClosed result.history left
-        → P.launches t ≡ launches_of (started_runs result.history.list) }
-    ensures ended { (s t : P) → slice_get spawners.items 0 ≡ Some s
-        → slice_get result.spawners.items 0 ≡ Some t → P.tells s ≡ true
-        → EndAsSeen (started_runs result.history.list) (P.seen t) }
-    ensures spared { (s t : P) → slice_get spawners.items 0 ≡ Some s
-        → slice_get result.spawners.items 0 ≡ Some t → P.tells s ≡ true → (child : ℕ)
-        → P.killed t child ≡ false }
-    ensures not_started { (s t : P) → slice_get spawners.items 0 ≡ Some s
-        → slice_get result.spawners.items 0 ≡ Some t
-        → RoseBy (not_started_count result.history.list) (P.faults s) (P.faults t) }
+    // The children.
+    ensures launched { AtMachine 0 spawners.items result.spawners.items (λ s t. P.tells s ≡ true
+        → IsLaunched result.history.list (P.launches t)) }
+    ensures all_launched { AtMachine 0 spawners.items result.spawners.items (λ s t.
+        P.tells s ≡ true → (left : Bool) → IsClosed result.history left
+        → P.launches t ≡ run_launches (child_runs result.history.list)) }
+    ensures counted { AtMachine 0 spawners.items result.spawners.items (λ s t.
+        IsChildCount result.history.list (P.count t)) }
+    ensures all_counted { AtMachine 0 spawners.items result.spawners.items (λ s t.
+        (left : Bool) → IsClosed result.history left
+        → P.count t ≡ length (child_runs result.history.list)) }
+    ensures ended { AtMachine 0 spawners.items result.spawners.items (λ s t. P.tells s ≡ true
+        → EndAsSeen (child_runs result.history.list) (P.seen t)) }
+    ensures spared { AtMachine 0 spawners.items result.spawners.items (λ s t. P.tells s ≡ true
+        → (child : ℕ) → P.killed t child ≡ false) }
+    ensures not_started { AtMachine 0 spawners.items result.spawners.items (λ s t.
+        RoseBy (not_started_count result.history.list) (P.faults s) (P.faults t)) }
     ensures other_spawners { (k : ℕ) → k ≢ 0
         → slice_get result.spawners.items k ≡ slice_get spawners.items k }
 
+    // The output.
     ensures written { K.tells out.old ≡ true
         → WritesPart result.history (K.written out.old) (K.written out.new) }
     ensures all_written { K.tells out.old ≡ true
@@ -94,14 +101,14 @@ pub fn run_pool<
         ⊎ ((result.status ≡ Status.Stuck) ⊎ (result.status ≡ Status.DiskFault))
         → WritesAll result.history (K.written out.old) (K.written out.new) }
 
+    // The statuses.
     ensures status_usage { result.status ≡ Status.Usage ↔ IsNoRun (texts words.now) }
     ensures status_input { D.tells store ≡ true → (name : List ℕ) (line : ℕ) (kind : Kind)
         → result.status ≡ Status.Input name line kind
         → IsRefusedInput (D.file store) (texts words.now) name line kind }
     ensures status_input_comes { D.tells store ≡ true → (name : List ℕ) (line : ℕ) (kind : Kind)
         → IsRefusedInput (D.file store) (texts words.now) name line kind
-        → (result.status ≡ Status.Input name line kind)
-        ⊎ ((result.status ≡ Status.DiskFault) ⊎ (result.status ≡ Status.Memory)) }
+        → IsAnswer name line kind result.status }
     ensures status_done { result.status ≡ Status.Done
         → IsClosed result.history false × (K.faults out.new ≡ K.faults out.old) }
     ensures status_done_comes { IsClosed result.history false
@@ -117,9 +124,11 @@ pub fn run_pool<
     ensures status_out_fault { result.status ≡ Status.OutFault
         → Rose (K.faults out.old) (K.faults out.new)
         × ((left : Bool) × IsClosed result.history left) }
-    ensures status_early { EndsEarly result.status → HasNothing result.history }
-    ensures status_today { IsStatusToday result.status }
+    ensures status_early { IsBeforePool (stage_of result.status) → HasNothing result.history }
+    ensures status_today { IsToday (stage_of result.status) }
 
+    // The files.
+    ensures store_usage { result.status ≡ Status.Usage → result.store ≡ store }
     ensures store { D.tells store ≡ true
         → SameFiles (D.file store) (D.file result.store) (D.solid store) (D.solid result.store) }
 {
@@ -145,10 +154,11 @@ fn run<R: Wait, D: Store, C: Clock, P: Spawner, K: Sink>(
     out: &mut K,
 ) -> (Status, History)
     requires idle { P.count spawner.old ≡ 0 }
-    ensures runs { PoolRuns (C.allows clock.now) (P.tells spawner.old) (P.launches spawner.new)
-        (P.seen spawner.new) (P.killed spawner.new) (P.faults spawner.old) (P.faults spawner.new)
-        (K.tells out.old) (K.written out.old) (K.written out.new) (K.faults out.old)
-        (K.faults out.new) result.0 result.1 }
+    ensures runs { PoolRuns (C.allows clock.now)
+        (spawner_seen P.tells P.count P.launches P.seen P.killed P.faults) spawner.old spawner.new
+        (sink_seen K.tells K.written K.faults) out.old out.new result.0 result.1 }
+
+    // The statuses of the words and the files.
     ensures history_input { D.tells store.old ≡ true
         → OfInputFrom (D.file store.old) (texts words.now) result.1.opening result.1.list }
     ensures status_usage { result.0 ≡ Status.Usage ↔ IsNoRun (texts words.now) }
@@ -158,16 +168,18 @@ fn run<R: Wait, D: Store, C: Clock, P: Spawner, K: Sink>(
     ensures status_input_comes { D.tells store.old ≡ true
         → (name : List ℕ) (line : ℕ) (kind : Kind)
         → IsRefusedInput (D.file store.old) (texts words.now) name line kind
-        → (result.0 ≡ Status.Input name line kind)
-        ⊎ ((result.0 ≡ Status.DiskFault) ⊎ (result.0 ≡ Status.Memory)) }
+        → IsAnswer name line kind result.0 }
     ensures status_disk_fault { result.0 ≡ Status.DiskFault
         → Rose (D.faults store.old) (D.faults store.new) }
-    ensures status_early { EndsEarly result.0 → HasNothing result.1 }
-    ensures status_today { IsStatusToday result.0 }
+    ensures status_early { IsBeforePool (stage_of result.0) → HasNothing result.1 }
+    ensures status_today { IsToday (stage_of result.0) }
+
+    // The files.
+    ensures store_usage { result.0 ≡ Status.Usage → store.new ≡ store.old }
     ensures store { D.tells store.old ≡ true
         → SameFiles (D.file store.old) (D.file store.new) (D.solid store.old) (D.solid store.new) }
 {
-    match named_by(words) {
+    match files_in(words) {
         Some(named) => run_files(rt, alloc, named, store, clock, spawner, out),
         None => (Status::Usage, no_history(alloc)),
     }
@@ -184,10 +196,11 @@ fn run_files<R: Wait, D: Store, C: Clock, P: Spawner, K: Sink>(
     out: &mut K,
 ) -> (Status, History)
     requires idle { P.count spawner.old ≡ 0 }
-    ensures runs { PoolRuns (C.allows clock.now) (P.tells spawner.old) (P.launches spawner.new)
-        (P.seen spawner.new) (P.killed spawner.new) (P.faults spawner.old) (P.faults spawner.new)
-        (K.tells out.old) (K.written out.old) (K.written out.new) (K.faults out.old)
-        (K.faults out.new) result.0 result.1 }
+    ensures runs { PoolRuns (C.allows clock.now)
+        (spawner_seen P.tells P.count P.launches P.seen P.killed P.faults) spawner.old spawner.new
+        (sink_seen K.tells K.written K.faults) out.old out.new result.0 result.1 }
+
+    // The statuses of the files, and the files themselves.
     ensures files { D.tells store.old ≡ true
         → OfFilesFrom (D.file store.old) named.entry.config.now named.entry.submit.now
         result.1.opening result.1.list }
@@ -198,12 +211,11 @@ fn run_files<R: Wait, D: Store, C: Clock, P: Spawner, K: Sink>(
     ensures refuses { D.tells store.old ≡ true → (name : List ℕ) (line : ℕ) (kind : Kind)
         → IsRefusedOf (D.file store.old) named.entry.config.now named.entry.submit.now name line
         kind
-        → (result.0 ≡ Status.Input name line kind)
-        ⊎ ((result.0 ≡ Status.DiskFault) ⊎ (result.0 ≡ Status.Memory)) }
+        → IsAnswer name line kind result.0 }
     ensures disk_fault { result.0 ≡ Status.DiskFault
         → Rose (D.faults store.old) (D.faults store.new) }
-    ensures early { EndsEarly result.0 → HasNothing result.1 }
-    ensures today { IsStatusToday result.0 × (result.0 ≢ Status.Usage) }
+    ensures early { IsBeforePool (stage_of result.0) → HasNothing result.1 }
+    ensures today { IsToday (stage_of result.0) × (result.0 ≢ Status.Usage) }
     ensures store { D.tells store.old ≡ true
         → SameFiles (D.file store.old) (D.file store.new) (D.solid store.old) (D.solid store.new) }
 {
@@ -224,15 +236,14 @@ fn run_job<R: Wait, C: Clock, P: Spawner, K: Sink>(
     out: &mut K,
 ) -> (Status, History)
     requires idle { P.count spawner.old ≡ 0 }
-    requires machine_small { config.memory ≤ 1000000000 }
-    requires job_small { file.memory ≤ 1000000000 }
-    ensures runs { PoolRuns (C.allows clock.now) (P.tells spawner.old) (P.launches spawner.new)
-        (P.seen spawner.new) (P.killed spawner.new) (P.faults spawner.old) (P.faults spawner.new)
-        (K.tells out.old) (K.written out.old) (K.written out.new) (K.faults out.old)
-        (K.faults out.new) result.0 result.1 }
+    requires machine_small { config.memory ≤ MOST_MEMORY }
+    requires job_small { file.memory ≤ MOST_MEMORY }
+    ensures runs { PoolRuns (C.allows clock.now)
+        (spawner_seen P.tells P.count P.launches P.seen P.killed P.faults) spawner.old spawner.new
+        (sink_seen K.tells K.written K.faults) out.old out.new result.0 result.1 }
     ensures job { OfJobFrom config.name config.memory file.program file.memory result.1.opening
         result.1.list }
-    ensures late { IsLate result.0 }
+    ensures late { IsAfterFiles (stage_of result.0) }
 {
     match open(alloc, &config) {
         Ok(course) => run_course(rt, alloc, course, file, clock, spawner, out),
@@ -242,7 +253,7 @@ fn run_job<R: Wait, C: Clock, P: Spawner, K: Sink>(
 
 // The pool of a machine.
 fn open(alloc: Global, config: &Config) -> Result<Course, Memory>
-    requires { config.now.memory ≤ 1000000000 }
+    requires { config.now.memory ≤ MOST_MEMORY }
     ensures opening { IfOk result (λ c. c.opening ≡ opening_pool
         (machine_slot config.now.name config.now.memory ∷ [])) }
     ensures list { IfOk result (λ c. c.list ≡ []) }
@@ -269,16 +280,14 @@ fn run_course<R: Wait, C: Clock, P: Spawner, K: Sink>(
     requires empty { course.list ≡ [] }
     requires opening { course.opening ≡ opening_pool course.opening.slots }
     requires opened { course.pool ≡ course.opening }
-    requires slots { AreNumberedOnce course.opening.slots }
-    requires small { file.memory ≤ 1000000000 }
-    ensures runs { PoolRuns (C.allows clock.now) (P.tells spawner.old) (P.launches spawner.new)
-        (P.seen spawner.new) (P.killed spawner.new) (P.faults spawner.old) (P.faults spawner.new)
-        (K.tells out.old) (K.written out.old) (K.written out.new) (K.faults out.old)
-        (K.faults out.new) result.0 result.1 }
+    requires small { file.memory ≤ MOST_MEMORY }
+    ensures runs { PoolRuns (C.allows clock.now)
+        (spawner_seen P.tells P.count P.launches P.seen P.killed P.faults) spawner.old spawner.new
+        (sink_seen K.tells K.written K.faults) out.old out.new result.0 result.1 }
     ensures job { (name : List ℕ) (memory : ℕ)
         → course.opening ≡ opening_pool (machine_slot name memory ∷ [])
         → OfJobFrom name memory file.program file.memory result.1.opening result.1.list }
-    ensures late { IsLate result.0 }
+    ensures late { IsAfterFiles (stage_of result.0) }
 {
     let played = play(rt, alloc, &mut course, clock, spawner, &file);
     let (history, pool) = course.finish();
@@ -306,6 +315,7 @@ fn load<D: Store>(
     store: &mut D,
     named: Named<'_>,
 ) -> Result<(Config, SubmitFile), Status>
+    // What is answered of the files.
     ensures ok { D.tells store.old ≡ true
         → IfOk result (λ i. IsInputOf (D.file store.old) named.entry.config.now
         named.entry.submit.now i.0.name i.0.memory i.1.program i.1.memory) }
@@ -316,10 +326,11 @@ fn load<D: Store>(
     ensures refuses { D.tells store.old ≡ true → (name : List ℕ) (line : ℕ) (kind : Kind)
         → IsRefusedOf (D.file store.old) named.entry.config.now named.entry.submit.now name line
         kind
-        → IsErrAnd result (λ s. (s ≡ Status.Input name line kind)
-        ⊎ ((s ≡ Status.DiskFault) ⊎ (s ≡ Status.Memory))) }
-    ensures small { IfOk result (λ i. (i.0.memory ≤ 1000000000) × (i.1.memory ≤ 1000000000)) }
-    ensures early { IfErr result IsEarly }
+        → IsErrAnd result (IsAnswer name line kind) }
+
+    // What else is known of the answer, and the files themselves.
+    ensures small { IfOk result (λ i. (i.0.memory ≤ MOST_MEMORY) × (i.1.memory ≤ MOST_MEMORY)) }
+    ensures early { IfErr result (λ s. IsAtFiles (stage_of s)) }
     ensures disk_fault { IfErr result
         (λ s. s ≡ Status.DiskFault → Rose (D.faults store.old) (D.faults store.new)) }
     ensures same { D.tells store.old ≡ true
@@ -337,7 +348,7 @@ fn load<D: Store>(
 
 // Writes the user log of a history, and says how the run ended whose pool was closed so.
 fn print<K: Sink>(alloc: Global, history: &History, pool: &Pool, out: &mut K) -> Status
-    requires { All (λ s. reading_of s.event ≤ 253402207200) history.now.list }
+    requires { AreReadings history.now.list }
     ensures written { K.tells out.old ≡ true
         → WritesPart history.now (K.written out.old) (K.written out.new) }
     ensures all_written { K.tells out.old ≡ true

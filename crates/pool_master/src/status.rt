@@ -1,5 +1,5 @@
 ghost use Rattle.std.specs.Prelude.{◌≡◌, IfOk};
-ghost use Rattle.pool_master.specs.Status.{line_of, number_of};
+ghost use Rattle.pool_master.specs.Status.{line_of, status_number};
 
 use ad_value::{Memory, Text};
 use pool_outer::Which;
@@ -52,14 +52,14 @@ impl Status {
             Status::OutFault => String::from_str(alloc, "output fault")?,
             Status::Memory => String::from_str(alloc, "out of memory")?,
             Status::BadLog { line } => format!(in alloc; "log: line {line}")?,
-            Status::Limit { which } => format!(in alloc; "limit: {}", name_of(*which))?,
+            Status::Limit { which } => format!(in alloc; "limit: {}", limit_name(*which))?,
         };
         Ok(Text::from(line))
     }
 
     /// The program's exit status.
     pub fn number(&self) -> u8
-        ensures { result ≡ number_of self.now }
+        ensures { result ≡ status_number self.now }
     {
         match self {
             Status::Done => 0,
@@ -91,7 +91,7 @@ impl Kind {
 
 ghost use Rattle.pool_master.specs.Status.{limit_name};
 
-fn name_of(which: Which) -> &'static str
+fn limit_name(which: Which) -> &'static str
     ensures { result.now ≡ limit_name which }
 {
     match which {

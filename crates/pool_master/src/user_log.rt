@@ -1,7 +1,8 @@
 ghost use Rattle.std.specs.Prelude.{◌≡◌, ◌≤◌, ◌<◌, ◌^◌, ◌+◌, ◌++◌, List, ℕ, IfOk, All, length, codes, string_bytes};
 ghost use Rattle.pool_core.specs.Events.{reading_of};
 ghost use Rattle.pool_core.specs.PoolValue.{slot_at};
-ghost use Rattle.pool_master.specs.UserLog.{IsStamp, IsEntry, AreEntries, IsSubmitLines, IsStartLines, IsEndLines, IsLines, ArePrinted, IsUserLog, never_starts, clusters_with, name_in, name_of, three_digits, numbers_text, submitted_text, held_text};
+ghost use Rattle.pool_master.specs.Follows.{IsInCalendar, AreReadings};
+ghost use Rattle.pool_master.specs.UserLog.{IsStamp, IsEntry, AreEntries, IsSubmitLines, IsStartLines, IsEndLines, IsLines, ArePrinted, IsUserLog, never_starts, clusters_with, name_in, slot_name_at, three_digits, numbers_text, submitted_text, held_text};
 
 use ad_value::{Memory, Text};
 use jiff::Timestamp;
@@ -15,29 +16,29 @@ const HELD: &str = "Job was held.\n\tFailed to start\n...\n";
 
 /// The user log of a history: its events 000, 001, 005 and 012, and the lines of its submissions.
 pub fn log_text(alloc: Global, history: &History) -> Result<Text, Memory>
-    requires { All (λ s. reading_of s.event ≤ 253402207200) history.now.list }
+    requires { AreReadings history.now.list }
     ensures { IfOk result (λ t. IsUserLog history.now t) }
 {
     let text = match &history.opening {
         None => String::new(alloc),
-        Some(pool) => printed(alloc, pool.slots().as_slice(), history.list.as_slice())?,
+        Some(pool) => events_text(alloc, pool.slots().as_slice(), history.list.as_slice())?,
     };
     Ok(Text::from(text))
 }
 
 // What these events print, in a pool of these slots in which nothing was submitted before.
-fn printed(alloc: Global, slots: &[SlotAd], steps: &[Step]) -> Result<String, Memory>
-    requires { All (λ s. reading_of s.event ≤ 253402207200) steps.now }
+fn events_text(alloc: Global, slots: &[SlotAd], steps: &[Step]) -> Result<String, Memory>
+    requires { AreReadings steps.now }
     ensures { IfOk result (λ t. ArePrinted slots.now 0 steps.now (string_bytes t)) }
 {
     let mut text = String::new(alloc);
     let mut clusters = 0;
     let mut rest = steps;
-    'steps: while let Some((step, behind)) = rest.split_first() {
-        let lines = lines(alloc, slots, clusters, behind, &step.event)?;
+    'steps: while let Some((step, after)) = rest.split_first() {
+        let lines = lines(alloc, slots, clusters, after, &step.event)?;
         text.push_str(lines.as_str())?;
         clusters = clusters_with(clusters, &step.event);
-        rest = behind;
+        rest = after;
     }
     Ok(text)
 }
@@ -53,7 +54,7 @@ fn clusters_with(clusters: usize, event: &Event) -> usize
     }
 }
 
-// Whether the run of the job that is on before these events ends as one that didn't start.
+// Whether the run of the job that is running before these events ends as one that didn't start.
 fn never_starts(job: JobId, steps: &[Step]) -> bool
     ensures { result ≡ never_starts job steps.now }
 {
@@ -77,12 +78,12 @@ fn lines(
     alloc: Global,
     slots: &[SlotAd],
     clusters: usize,
-    behind: &[Step],
+    after: &[Step],
     event: &Event,
 ) -> Result<String, Memory>
-    requires in_range { reading_of event.now ≤ 253402207200 }
+    requires in_range { IsInCalendar (reading_of event.now) }
     requires few { clusters + 1 < 2 ^ 64 }
-    ensures { IfOk result (λ t. IsLines slots.now clusters behind.now event.now (string_bytes t)) }
+    ensures { IfOk result (λ t. IsLines slots.now clusters after.now event.now (string_bytes t)) }
 {
     match event {
         Event::Submit { jobs, reading } => {
@@ -94,8 +95,8 @@ fn lines(
             reading,
             ..
         } => {
-            let never = never_starts(*job, behind);
-            start_lines(alloc, never, *job, name_of(slots, *slot), *reading)
+            let never = never_starts(*job, after);
+            start_lines(alloc, never, *job, slot_name_at(slots, *slot), *reading)
         }
         Event::Ended { job, end, reading } => end_lines(alloc, end, *job, *reading),
         Event::Close { .. } => Ok(String::new(alloc)),
@@ -103,8 +104,8 @@ fn lines(
 }
 
 // The name of a slot.
-fn name_of(slots: &[SlotAd], id: SlotId) -> &str
-    ensures { result.now ≡ name_of slots.now id }
+fn slot_name_at(slots: &[SlotAd], id: SlotId) -> &str
+    ensures { result.now ≡ slot_name_at slots.now id }
 {
     for slot in slots {
         if slot.slot == id {
@@ -115,7 +116,7 @@ fn name_of(slots: &[SlotAd], id: SlotId) -> &str
 }
 
 fn submit_lines(alloc: Global, cluster: usize, count: usize, reading: u64) -> Result<String, Memory>
-    requires { reading ≤ 253402207200 }
+    requires { IsInCalendar reading }
     ensures { IfOk result (λ t. IsSubmitLines cluster count reading (string_bytes t)) }
 {
     let entries = entries(alloc, cluster, count, reading)?;
@@ -124,7 +125,7 @@ fn submit_lines(alloc: Global, cluster: usize, count: usize, reading: u64) -> Re
 
 // The entries of so many jobs of a cluster.
 fn entries(alloc: Global, cluster: usize, count: usize, reading: u64) -> Result<String, Memory>
-    requires { reading ≤ 253402207200 }
+    requires { IsInCalendar reading }
     ensures { IfOk result (λ t. AreEntries cluster 0 count reading (string_bytes t)) }
 {
     let mut text = String::new(alloc);
@@ -142,48 +143,48 @@ fn start_lines(
     slot: &str,
     reading: u64,
 ) -> Result<String, Memory>
-    requires { reading ≤ 253402207200 }
+    requires { IsInCalendar reading }
     ensures { IfOk result (λ t. IsStartLines never job slot.now reading (string_bytes t)) }
 {
     if never {
         return Ok(String::new(alloc));
     }
-    let said = format!(in alloc; "Job executing on host: <{slot}>\n...\n")?;
-    entry_of(alloc, "001", job, reading, said.as_str())
+    let what = format!(in alloc; "Job executing on host: <{slot}>\n...\n")?;
+    job_entry(alloc, "001", job, reading, what.as_str())
 }
 
 fn end_lines(alloc: Global, end: &End, job: JobId, reading: u64) -> Result<String, Memory>
-    requires { reading ≤ 253402207200 }
+    requires { IsInCalendar reading }
     ensures { IfOk result (λ t. IsEndLines end.now job reading (string_bytes t)) }
 {
     match end {
         End::Exited(code) => {
-            let said = format!(in alloc;
+            let what = format!(in alloc;
                 "Job terminated.\n\t(1) Normal termination (return value {code})\n...\n"
             )?;
-            entry_of(alloc, "005", job, reading, said.as_str())
+            job_entry(alloc, "005", job, reading, what.as_str())
         }
         End::Signalled(signal) => {
-            let said = format!(in alloc;
+            let what = format!(in alloc;
                 "Job terminated.\n\t(0) Abnormal termination (signal {signal})\n...\n"
             )?;
-            entry_of(alloc, "005", job, reading, said.as_str())
+            job_entry(alloc, "005", job, reading, what.as_str())
         }
-        End::NotStarted => entry_of(alloc, "012", job, reading, HELD),
+        End::NotStarted => job_entry(alloc, "012", job, reading, HELD),
     }
 }
 
 // An event of the log, of a job.
-fn entry_of(
+fn job_entry(
     alloc: Global,
     number: &str,
     job: JobId,
     reading: u64,
-    said: &str,
+    what: &str,
 ) -> Result<String, Memory>
-    requires { reading ≤ 253402207200 }
+    requires { IsInCalendar reading }
     ensures { IfOk result
-        (λ t. IsEntry number.now job.cluster job.proc reading said.now (string_bytes t)) }
+        (λ t. IsEntry number.now job.cluster job.proc reading what.now (string_bytes t)) }
 {
     entry(
         alloc,
@@ -191,7 +192,7 @@ fn entry_of(
         job.cluster as usize,
         job.proc as usize,
         reading,
-        said,
+        what,
     )
 }
 
@@ -201,14 +202,14 @@ fn entry(
     cluster: usize,
     proc: usize,
     reading: u64,
-    said: &str,
+    what: &str,
 ) -> Result<String, Memory>
-    requires { reading ≤ 253402207200 }
-    ensures { IfOk result (λ t. IsEntry number.now cluster proc reading said.now (string_bytes t)) }
+    requires { IsInCalendar reading }
+    ensures { IfOk result (λ t. IsEntry number.now cluster proc reading what.now (string_bytes t)) }
 {
     let numbers = numbers(alloc, cluster, proc)?;
     let stamp = stamp(alloc, reading)?;
-    Ok(format!(in alloc; "{number} {numbers} {stamp} {said}")?)
+    Ok(format!(in alloc; "{number} {numbers} {stamp} {what}")?)
 }
 
 // The numbers of a job.
@@ -234,7 +235,7 @@ fn three_digits(alloc: Global, n: usize) -> Result<String, Memory>
 
 // The date and time of a reading, in UTC.
 fn stamp(alloc: Global, reading: u64) -> Result<String, Memory>
-    requires { reading ≤ 253402207200 }
+    requires { IsInCalendar reading }
     ensures { IfOk result (λ t. IsStamp reading (string_bytes t)) }
 {
     let instant = Timestamp::from_second(reading as i64).unwrap();

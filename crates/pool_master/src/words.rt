@@ -9,7 +9,7 @@ pub struct Named<'a> {
 }
 
 /// The files that the words name, where these are of the form `run CONFIG SUBMIT`.
-pub fn named_by(words: &[String]) -> Option<Named<'_>>
+pub fn files_in(words: &[String]) -> Option<Named<'_>>
     ensures { MatchOption result (IsNoRun (texts words.now))
         (λ n. IsRun (texts words.now) n.config.now n.submit.now) }
 {

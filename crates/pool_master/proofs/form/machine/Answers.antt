@@ -1,5 +1,5 @@
 use Rattle.std.proofs.Common.{◌≢◌, ◌∙◌, ◌∷◌, ℕ, List, Some, ap, rules, slice_get}
-use Rattle.pool_master.specs.Forms.{Line, MachineLine, IsName, Fits, line, lines_of, machine_line}
+use Rattle.pool_master.specs.Forms.{Line, MachineLine, IsMachineName, Fits, line, lines_of, machine_line}
 use Rattle.pool_master.proofs.FormLines.{not_fits, IsUtf8-name}
 use Rattle.pool_master.proofs.form.machine.Goals as goal
 
@@ -12,5 +12,5 @@ returns-in_err-name c =
 
 pub returns-in_err-text_of : goal.returns-in_err-text_of
 returns-in_err-text_of c =
-    let name : IsName c.in_ok-name.name.now = search rules in
+    let name : IsMachineName c.in_ok-name.name.now = search rules in
     absurd (c.in_err-text_of.ensures (IsUtf8-name c.in_ok-name.name.now name))

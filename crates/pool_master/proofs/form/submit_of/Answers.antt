@@ -1,4 +1,5 @@
 use Rattle.std.proofs.Common.{◌≡◌, ◌≢◌, ◌≤◌, ◌∷◌, ◌==◌, [], ℕ, List, Some, false, length, codes, decimal, refl, rules, slice_get}
+use Rattle.pool_master.specs.declared.form.TheConstants.{MOST_MEMORY}
 use Rattle.pool_master.specs.Forms.{Line, ExecutableLine, RequestMemoryLine, QueueLine, Fits, IsPath, IsAmount, line, lines_of, executable_line, request_memory_line}
 use Rattle.pool_master.proofs.FormLines.{bad_here, bad_later, bad_more, no_request_memory}
 use Rattle.pool_master.proofs.form.submit_of.Goals as goal
@@ -19,7 +20,7 @@ returns-in_default-queue-clause-bad c = λ n is.
     let amount = c.in-Some-amount.memory in
     let rest = lines_of c.in-Some-amount.rest.now in
     let first : (lines_of c.args.bytes.now ≡ line (executable_line path) ∷ lines_of c.in-Some.rest.now) × IsPath path = search rules in
-    let second : (lines_of c.in-Some.rest.now ≡ line (request_memory_line (decimal amount)) ∷ rest) × (amount ≤ 1000000000) = search rules in
+    let second : (lines_of c.in-Some.rest.now ≡ line (request_memory_line (decimal amount)) ∷ rest) × (amount ≤ MOST_MEMORY) = search rules in
     let none : Fits (Some QueueLine) (slice_get rest 0) → ⊥ = search rules in
     rw (← number, first.0, second.0)
     (bad_later ExecutableLine (RequestMemoryLine ∷ QueueLine ∷ []) (executable_line path) (line (request_memory_line (decimal amount)) ∷ rest) 2 (path, refl, first.1)
@@ -32,7 +33,7 @@ returns-then-not-is_empty-clause-bad c = λ n is.
     let amount = c.in-Some-amount.memory in
     let left = c.in-Some-queue.rest.now in
     let first : (lines_of c.args.bytes.now ≡ line (executable_line path) ∷ lines_of c.in-Some.rest.now) × IsPath path = search rules in
-    let second : (lines_of c.in-Some.rest.now ≡ line (request_memory_line (decimal amount)) ∷ lines_of c.in-Some-amount.rest.now) × (amount ≤ 1000000000) = search rules in
+    let second : (lines_of c.in-Some.rest.now ≡ line (request_memory_line (decimal amount)) ∷ lines_of c.in-Some-amount.rest.now) × (amount ≤ MOST_MEMORY) = search rules in
     let third : lines_of c.in-Some-amount.rest.now ≡ line (codes "queue") ∷ lines_of left = search rules in
     let some : (length left == 0) ≡ false = search rules in
     rw (← number, first.0, second.0, third)

@@ -16,7 +16,7 @@ returns-in-Ok-clause-runs g c =
     let opened : o ≡ opening_pool o.slots = rw play.opening c.requires.opening in
     let is = played o c.play-played.new.course.list c.finish-history.result.0 c.finish-history.result.1 opened end.list end.history end.safe end.shows in
     let closed : c.finish-history.result.1.closed ≡ true = ap (λ (p : PoolValue). p.closed) end.pool ∙ play.closed.0 refl in
-    printed_runs _ _ _ _ _ _ _ _ _ _ _ _ c.print.result c.finish-history.result.0 c.finish-history.result.1 is closed (rw end.list play.follows) (rw end.list play.between) c.print.ensures.written c.print.ensures.all_written c.print.ensures.printed
+    printed_runs _ _ _ _ _ _ _ c.print.result c.finish-history.result.0 c.finish-history.result.1 is closed (rw end.list play.follows) (rw end.list play.between) c.print.ensures.written c.print.ensures.all_written c.print.ensures.printed
 
 pub returns-in-Ok-clause-job : goal.returns-in-Ok-clause-job
 returns-in-Ok-clause-job g c = λ name memory machine.
@@ -35,7 +35,7 @@ returns-clause-runs g c =
     let opened : o ≡ opening_pool o.slots = rw play.opening c.requires.opening in
     let is = played o c.play-played.new.course.list c.finish-history.result.0 c.finish-history.result.1 opened end.list end.history end.safe end.shows in
     let left_open : c.finish-history.result.1.closed ≢ true = λ closed. let clash : false ≡ true = play.closed.1 (ap (λ (p : PoolValue). p.closed) (sym end.pool) ∙ closed) in cc in
-    open_runs _ _ _ _ _ _ _ _ _ _ c.finish-history.result.0 c.finish-history.result.1 is left_open (rw end.list play.follows)
+    open_runs _ _ _ _ _ _ c.finish-history.result.0 c.finish-history.result.1 is left_open (rw end.list play.follows)
 
 pub returns-clause-job : goal.returns-clause-job
 returns-clause-job g c = λ name memory machine.

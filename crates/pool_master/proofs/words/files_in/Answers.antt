@@ -1,7 +1,7 @@
 use Rattle.std.proofs.Common.{◌≡◌, ◌∙◌, ap, rules, codes, string_bytes}
 use Rattle.pool_master.specs.Words.{texts}
 use Rattle.pool_master.proofs.ThreeWords.{three}
-use Rattle.pool_master.proofs.words.named_by.Goals as goal
+use Rattle.pool_master.proofs.words.files_in.Goals as goal
 
 pub returns-then-is_plain-2 : goal.returns-then-is_plain-2
 returns-then-is_plain-2 c =

@@ -1,7 +1,7 @@
 use Rattle.std.proofs.Common.{◌≡◌, ℕ, Some, None, rules}
 use Rattle.pool_master.specs.Forms.{IsAmount}
 use Rattle.pool_master.proofs.Amounts.{IsUtf8-amount, reads_amount}
-use Rattle.pool_master.proofs.form.number.Goals as goal
+use Rattle.pool_master.proofs.form.number_in.Goals as goal
 
 pub returns-in_err-text : goal.returns-in_err-text
 returns-in_err-text c =
