@@ -1,21 +1,21 @@
 use ad_tree::{Ad, AdList, Expr, Scope};
 use ad_value::{Copied, Memory, Text, Value};
-use pool_core::{Course, SlotAd, SlotAdList, SlotId};
+use pool_core::{Course, SlotAd, SlotAdList, SlotId, are_numbered_once};
 use std::alloc::Global;
 
 // What an attribute is set to.
 #[derive(Clone, Copy)]
 enum Given<'a> {
-    Said(&'a str),
+    Text(&'a str),
     Truth(bool),
-    Named(&'a str),
+    Name(&'a str),
 }
 
 /// A pool of so many slots of machine 0, which start any job, or none. Without slots there is no
 /// pool.
 pub(crate) fn open_pool(alloc: Global, count: u16, start: bool) -> Result<Option<Course>, Memory> {
     let slots = slots(alloc, count, start)?;
-    if slots.is_empty() {
+    if slots.is_empty() || !are_numbered_once(slots.as_slice()) {
         return Ok(None);
     }
     Ok(Some(Course::open(alloc, slots)?))
@@ -32,7 +32,7 @@ fn slots(alloc: Global, count: u16, start: bool) -> Result<SlotAdList, Memory> {
 fn slot(alloc: Global, slot: u16, start: bool) -> Result<SlotAd, Memory> {
     let rows = [
         ("Start", Given::Truth(start)),
-        ("Requirements", Given::Named("Start")),
+        ("Requirements", Given::Name("Start")),
     ];
     Ok(SlotAd {
         slot: SlotId { machine: 0, slot },
@@ -44,7 +44,7 @@ fn slot(alloc: Global, slot: u16, start: bool) -> Result<SlotAd, Memory> {
 /// The ad of a job that runs a program.
 pub(crate) fn job_ad(alloc: Global, program: &str, requirements: bool) -> Result<Ad, Memory> {
     let rows = [
-        ("Cmd", Given::Said(program)),
+        ("Cmd", Given::Text(program)),
         ("Requirements", Given::Truth(requirements)),
     ];
     ad_of(alloc, &rows)
@@ -71,9 +71,9 @@ fn ad_of(alloc: Global, rows: &[(&str, Given<'_>)]) -> Result<Ad, Memory> {
 
 fn expr_of(alloc: Global, given: Given<'_>) -> Result<Expr, Memory> {
     match given {
-        Given::Said(text) => Ok(Expr::Lit(Value::Str(Text::from_str(alloc, text)?))),
+        Given::Text(text) => Ok(Expr::Lit(Value::Str(Text::from_str(alloc, text)?))),
         Given::Truth(truth) => Ok(Expr::Lit(Value::Bool(truth))),
-        Given::Named(name) => Ok(Expr::Ref {
+        Given::Name(name) => Ok(Expr::Ref {
             scope: Scope::Bare,
             name: Text::from_str(alloc, name)?,
         }),
