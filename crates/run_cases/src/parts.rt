@@ -3,12 +3,10 @@ ghost use Rattle.std.specs.Prelude.{◌≡◌, All, IfOk, length};
 use crate::case::RunCase;
 use ad_value::Text;
 use cases::CaseError;
+use pool_master::MACHINES;
 use pool_outer::{FailingSpawns, MemClock, MemSink, MemSpawner, Script, Spawner};
 use pool_store::{MemFile, MemStore};
 use std::alloc::Global;
-
-/// How many spawners a pool has.
-const MACHINES: usize = 64;
 
 /// How many looks a child runs on for.
 const LOOKS: u64 = 3;

@@ -4,7 +4,7 @@ use crate::case::RunCase;
 use crate::parts::{clock_of, sink_of, spawners_of, store_of, words_of};
 use crate::status::write_status;
 use cases::{CaseError, escape};
-use pool_master::{Ran, Status, run_pool};
+use pool_master::{MACHINES, Ran, Status, run_pool};
 use pool_outer::{MemClock, MemSink, MemSpawner, OpenGate, Spawner};
 use pool_store::MemStore;
 use std::alloc::Global;
@@ -80,7 +80,7 @@ fn run_on<R: Threads + Wait + Sync + Clock>(
     spawners: Vec<MemSpawner>,
     sink: &mut MemSink,
 ) -> Status
-    requires machines { length spawners.items ≡ 64 }
+    requires machines { length spawners.items ≡ MACHINES }
     requires idle { All (λ s. ⟦<MemSpawner as Spawner>⟧.count s ≡ 0) spawners.items }
 {
     let Ran {
