@@ -1,0 +1,4 @@
+pub mod Numerals
+pub mod OneText
+pub mod Pieces
+pub mod Secrets
