@@ -23,8 +23,8 @@ impl JobId {
         Ok(Text::from(format!(in alloc; "{cluster}.{proc}")?))
     }
 
-    /// The job whose text this is, `NotAJob` exactly where there is none. Computes in O(bytes), without
-    /// memory.
+    /// The job whose text this is, `NotAJob` exactly where there is none. Computes in O(bytes),
+    /// without memory.
     pub fn read(text: &str) -> Result<JobId, NotAJob>
         ensures { (job : JobId) → (result ≡ Ok job) ↔ (IsJob job × (text.now ≡ job_text job)) }
     {
