@@ -1,0 +1,23 @@
+//! Answers cases of submit files, configurations and what they are made of: a case a line on
+//! standard input, an answer a line on standard output.
+//!
+//! `lines TEXT`, `expand TEXT NAME=VALUE ..`, `words TEXT plain`, `words TEXT quoted`: README.md
+//! says what each answers.
+#![tactic(auto)]
+
+mod answers;
+mod macros;
+mod texts;
+
+use crate::answers::answer_all;
+use anyhow::Result;
+use std::io;
+
+fn main(rt: HostRuntime) -> Result<()> {
+    let alloc = rt.alloc();
+    let input = io::read_to_string(alloc, rt.reader())?;
+    let mut answers = String::new(alloc);
+    answer_all(alloc, input.as_str(), &mut answers)?;
+    print!(rt; "{answers}")?;
+    Ok(())
+}

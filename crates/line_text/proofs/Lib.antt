@@ -1,0 +1,10 @@
+pub mod Boundaries
+pub mod Left
+pub mod LineLemmas
+pub mod TableLemmas
+pub mod WordLemmas
+pub mod Pieces
+pub mod Progresses
+pub mod Stretches
+pub mod Steps
+pub mod Frames
