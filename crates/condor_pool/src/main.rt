@@ -4,7 +4,7 @@
 ghost use Rattle.std.specs.Prelude.{◌≡◌, All, IfOk, length};
 
 use clap::{Arg, Command};
-use pool_master::{Ran, Status, run_pool};
+use pool_master::{MACHINES, Ran, Status, run_pool};
 use pool_outer::{ChildSpawner, OpenGate, Spawner, StdSink, SystemClock};
 use pool_store::DiskStore;
 use std::alloc::{AllocError, Global};
@@ -17,9 +17,6 @@ use std::thread::Threads;
 use std::{env, io};
 
 const VERSION: &str = "0.1.0";
-
-/// How many machines a pool may have; machine m launches on spawner m.
-const MACHINES: usize = 64;
 
 /// What a lone word may ask for.
 #[derive(Clone, Copy)]
