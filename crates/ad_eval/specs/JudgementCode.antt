@@ -5,7 +5,7 @@ use Rattle.std.proofs.Common.{ap, subst}
 use Rattle.std.proofs.Math.Bool.{Bool-set}
 use Rattle.std.specs.Coded.{Coded, coded×, coded_list, coded_ℕ}
 use Rattle.ad_tree.specs.Ad.{Attributes}
-use Rattle.ad_tree.specs.TreeCode.{tree_code}
+use Rattle.ad_tree.specs.TreeCode.{attributes_code}
 use Rattle.ad_eval.specs.Match.{matches, any_match}
 use Rattle.ad_eval.specs.Judgement.{Judgement, Mismatch}
 
@@ -35,9 +35,6 @@ same_judgement_by x y e f =
 -- a match is its parts
 pub same_judgement : (a b : Judgement) → judged_parts a ≡ judged_parts b → a ≡ b
 same_judgement a b e = same_judgement_by (judged_parts a) (judged_parts b) e a.fits b.fits
-
-abbrev attributes_code : Coded Attributes
-attributes_code = coded_list (coded× (coded_list coded_ℕ) tree_code)
 
 abbrev parts_code : Coded JudgedParts
 parts_code = coded× attributes_code (coded× attributes_code coded_ℕ)

@@ -10,11 +10,11 @@ ghost use Rattle.ad_eval.specs.Operators.{binary_value, unary_value, first_defin
 ghost use Rattle.ad_eval.specs.Match.{holds_as, rank_as, rank_of};
 ghost use Rattle.ad_eval.specs.Sides.{ads_of};
 
-use crate::names::RANK;
 use crate::operators::{apply, apply_unary, settle};
 use crate::progress::{MOST_IN_PROGRESS, Progress};
 use crate::sides::{Side, Sides, find_in_scope};
 use ad_func::call;
+use ad_names::matching::RANK;
 use ad_tree::{Ad, Expr, ExprList, Rest, RestList, Scope, UnOp};
 use ad_value::{Memory, Truth, Value, ValueList};
 use std::alloc::Global;

@@ -3,8 +3,8 @@ ghost use Rattle.ad_eval.specs.Match.{matches, requirements_hold};
 ghost use Rattle.ad_eval.specs.Judgement.{JudgesPair};
 
 use crate::evaluation::holds;
-use crate::names::REQUIREMENTS;
 use crate::steps::Steps;
+use ad_names::matching::REQUIREMENTS;
 use ad_tree::Ad;
 use ad_value::{Copied, Memory};
 use std::alloc::Global;

@@ -29,14 +29,14 @@ of_string f x = from_string f (plain_text x)
 abbrev pub of_strings : (List ℕ → List ℕ → Content) → Content → Content → Content
 of_strings f x y = of_string (λ a. of_string (λ b. f a b) y) x
 
-abbrev pub joined_text : Option (List ℕ) → Option (List ℕ) → Option (List ℕ)
-joined_text (Some s) (Some t) = Some (s ++ t)
-joined_text s t = None
+abbrev pub strcat_text : Option (List ℕ) → Option (List ℕ) → Option (List ℕ)
+strcat_text (Some s) (Some t) = Some (s ++ t)
+strcat_text s t = None
 
 -- the texts of all, one after another
 abbrev pub text_of_all : List Content → Option (List ℕ)
 text_of_all [] = Some []
-text_of_all (x ∷ xs) = joined_text (plain_text x) (text_of_all xs)
+text_of_all (x ∷ xs) = strcat_text (plain_text x) (text_of_all xs)
 
 abbrev pub strcat : List Content → Content
 strcat args = strict args (from_string text (text_of_all args))

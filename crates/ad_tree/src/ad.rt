@@ -67,13 +67,12 @@ impl From<Memory> for SetError {
 
 impl Model for Ad {
     ghost use Rattle.std.specs.Prelude.{List, ℕ};
-    ghost use Rattle.std.specs.Coded.{coded_list, coded×, coded_ℕ};
     ghost use Rattle.ad_tree.specs.Tree.{Tree};
-    ghost use Rattle.ad_tree.specs.TreeCode.{tree_code};
+    ghost use Rattle.ad_tree.specs.TreeCode.{attributes_code};
 
     ghost Value = { List (List ℕ × Tree) };
 
-    ghost coded = { coded_list (coded× (coded_list coded_ℕ) tree_code) };
+    ghost coded = { attributes_code };
 
     ghost use Rattle.ad_tree.specs.Places.{attributes_at, IsAdOver};
 

@@ -21,14 +21,13 @@ pub struct SharedTable {
 impl Model for SharedTable {
     ghost use Rattle.std.specs.Prelude.{List, ℕ, [], unwrap_or};
     ghost use Rattle.std.specs.Option.{option_map};
-    ghost use Rattle.std.specs.Coded.{coded_list, coded×, coded_ℕ};
     ghost use Rattle.std.specs.Arc.{arc_value};
     ghost use Rattle.ad_tree.specs.Tree.{Tree};
-    ghost use Rattle.ad_tree.specs.TreeCode.{tree_code};
+    ghost use Rattle.ad_tree.specs.TreeCode.{attributes_code};
 
     ghost Value = { List (List ℕ × Tree) };
 
-    ghost coded = { coded_list (coded× (coded_list coded_ℕ) tree_code) };
+    ghost coded = { attributes_code };
 
     ghost view = { λ s. unwrap_or (option_map arc_value s.table) [] };
 }

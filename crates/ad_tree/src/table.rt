@@ -27,14 +27,13 @@ impl Drop for Table {
 
 impl Model for Table {
     ghost use Rattle.std.specs.Prelude.{List, ℕ};
-    ghost use Rattle.std.specs.Coded.{coded_list, coded×, coded_ℕ};
     ghost use Rattle.ad_tree.specs.Tree.{Tree};
-    ghost use Rattle.ad_tree.specs.TreeCode.{tree_code};
+    ghost use Rattle.ad_tree.specs.TreeCode.{attributes_code};
     ghost use Rattle.ad_tree.specs.Ad.{named_trees, IsAd};
 
     ghost Value = { List (List ℕ × Tree) };
 
-    ghost coded = { coded_list (coded× (coded_list coded_ℕ) tree_code) };
+    ghost coded = { attributes_code };
 
     ghost view = { λ t. named_trees t.attributes.entries };
 

@@ -3,6 +3,9 @@
 
 ghost use Rattle.std.specs.Prelude.{◌≡◌, All, IfOk, length};
 
+mod question;
+
+use crate::question::{Question, lone_question};
 use clap::{Arg, Command};
 use pool_master::{MACHINES, Ran, Status, run_pool};
 use pool_outer::{ChildSpawner, OpenGate, Spawner, StdSink, SystemClock};
@@ -17,13 +20,6 @@ use std::thread::Threads;
 use std::{env, io};
 
 const VERSION: &str = "0.1.0";
-
-/// What a lone word may ask for.
-#[derive(Clone, Copy)]
-enum Question {
-    Help,
-    Version,
-}
 
 fn main(rt: HostRuntime) -> io::Result<ExitCode> {
     let alloc = rt.alloc();
@@ -85,18 +81,6 @@ fn print_line(rt: &impl Eprint, alloc: Global, status: &Status) {
 fn words(rt: &HostRuntime) -> io::Result<Vec<String>> {
     let words = env::args(rt)?.skip(1).collect(rt.alloc())?;
     Ok(words)
-}
-
-// What the words ask for, where there is one word and it asks.
-fn lone_question(words: &[String]) -> Option<Question> {
-    let [word] = words else {
-        return None;
-    };
-    match word.as_str() {
-        "--help" | "-h" => Some(Question::Help),
-        "--version" | "-V" => Some(Question::Version),
-        _ => None,
-    }
 }
 
 fn text_of(alloc: Global, question: Question) -> Result<String, AllocError> {

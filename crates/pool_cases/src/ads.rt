@@ -1,3 +1,6 @@
+use ad_names::job::CMD;
+use ad_names::matching::REQUIREMENTS;
+use ad_names::slot::START;
 use ad_tree::{Ad, AdList, Expr, Scope};
 use ad_value::{Copied, Memory, Text, Value};
 use pool_core::{Course, SlotAd, SlotAdList, SlotId, are_numbered_once};
@@ -31,8 +34,8 @@ fn slots(alloc: Global, count: u16, start: bool) -> Result<SlotAdList, Memory> {
 
 fn slot(alloc: Global, slot: u16, start: bool) -> Result<SlotAd, Memory> {
     let rows = [
-        ("Start", Given::Truth(start)),
-        ("Requirements", Given::Name("Start")),
+        (START, Given::Truth(start)),
+        (REQUIREMENTS, Given::Name(START)),
     ];
     Ok(SlotAd {
         slot: SlotId { machine: 0, slot },
@@ -44,8 +47,8 @@ fn slot(alloc: Global, slot: u16, start: bool) -> Result<SlotAd, Memory> {
 /// The ad of a job that runs a program.
 pub(crate) fn job_ad(alloc: Global, program: &str, requirements: bool) -> Result<Ad, Memory> {
     let rows = [
-        ("Cmd", Given::Text(program)),
-        ("Requirements", Given::Truth(requirements)),
+        (CMD, Given::Text(program)),
+        (REQUIREMENTS, Given::Truth(requirements)),
     ];
     ad_of(alloc, &rows)
 }

@@ -4,7 +4,8 @@ use Rattle.std.specs.Coded.{coded_list}
 use Rattle.std.proofs.lemmas.Bool.{eqb-true}
 use base.Stored.{Gv, gnil, gnum, gcons}
 use Rattle.ad_tree.specs.Ad.{Attributes}
-use Rattle.pool_core.specs.Sameness.{same_code, ad_code, same_ad, same_ads}
+use Rattle.pool_core.specs.Sameness.{same_code, same_ad, same_ads}
+use Rattle.ad_tree.specs.TreeCode.{attributes_code}
 use Rattle.pool_core.proofs.Steps.{both_true}
 
 same_code-true : (a b : Gv) → same_code a b ≡ true → a ≡ b
@@ -26,16 +27,16 @@ same_code-same (gnum m) = eq-eqb m m refl
 same_code-same (gcons a b) = rw (same_code-same a, same_code-same b) refl
 
 pub same_ad-true : (a b : Attributes) → same_ad a b ≡ true → a ≡ b
-same_ad-true a b h = ad_code.inj a b (same_code-true (ad_code.code a) (ad_code.code b) h)
+same_ad-true a b h = attributes_code.inj a b (same_code-true (attributes_code.code a) (attributes_code.code b) h)
 
 pub same_ad-same : (a b : Attributes) → a ≡ b → same_ad a b ≡ true
-same_ad-same a b e = ap (λ x. same_code (ad_code.code a) (ad_code.code x)) (sym e) ∙ same_code-same (ad_code.code a)
+same_ad-same a b e = ap (λ x. same_code (attributes_code.code a) (attributes_code.code x)) (sym e) ∙ same_code-same (attributes_code.code a)
 
 pub same_ads-true : (xs ys : List Attributes) → same_ads xs ys ≡ true → xs ≡ ys
-same_ads-true xs ys h = (coded_list ad_code).inj xs ys (same_code-true ((coded_list ad_code).code xs) ((coded_list ad_code).code ys) h)
+same_ads-true xs ys h = (coded_list attributes_code).inj xs ys (same_code-true ((coded_list attributes_code).code xs) ((coded_list attributes_code).code ys) h)
 
 pub same_ads-same : (xs ys : List Attributes) → xs ≡ ys → same_ads xs ys ≡ true
-same_ads-same xs ys e = ap (λ x. same_code ((coded_list ad_code).code xs) ((coded_list ad_code).code x)) (sym e) ∙ same_code-same ((coded_list ad_code).code xs)
+same_ads-same xs ys e = ap (λ x. same_code ((coded_list attributes_code).code xs) ((coded_list attributes_code).code x)) (sym e) ∙ same_code-same ((coded_list attributes_code).code xs)
 
 -- ---- what a test of two ads tells
 by_both : (a b : Bool) → (a ≡ true → b ≡ true) → (b ≡ true → a ≡ true) → a ≡ b

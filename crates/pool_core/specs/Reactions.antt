@@ -1,7 +1,8 @@
 -- Which events a pool accepts, what it answers, and what they change.
-use Rattle.std.specs.Prelude.{ℕ, ◌+◌, List, [], ◌∷◌, ◌++◌, length, map, Bool, true, false, not, ◌&&◌, ◌||◌, ◌==◌, nat_lt, max, codes, if◌then◌else◌, Option, Some, None, is_some}
+use Rattle.std.specs.Prelude.{ℕ, ◌+◌, List, [], ◌∷◌, ◌++◌, length, map, Bool, true, false, not, ◌&&◌, ◌||◌, ◌==◌, nat_lt, max, if◌then◌else◌, Option, Some, None, is_some}
 use Rattle.std.specs.List.{filter_map}
 use Rattle.ad_value.specs.Content.{text}
+use Rattle.ad_names.specs.declared.job.TheConstants.{CMD, IWD, IN, OUT, ERR}
 use Rattle.ad_tree.specs.Ad.{Attributes, lookup}
 use Rattle.ad_tree.specs.Tree.{Tree, literal}
 use Rattle.ad_eval.specs.Judgement.{Judgement, Mismatch}
@@ -127,12 +128,12 @@ string_of ad name = string_in (lookup name ad)
 -- gets no words yet
 abbrev pub launch_of : Attributes → Launch
 launch_of ad = record {
-  program = string_of ad (codes "Cmd");
+  program = string_of ad CMD.now;
   words = [];
-  folder = string_of ad (codes "Iwd");
-  input = string_of ad (codes "In");
-  output = string_of ad (codes "Out");
-  errors = string_of ad (codes "Err");
+  folder = string_of ad IWD.now;
+  input = string_of ad IN.now;
+  output = string_of ad OUT.now;
+  errors = string_of ad ERR.now;
 }
 
 -- what the pool answers to an event that it accepts

@@ -1,6 +1,7 @@
 ghost use Rattle.std.specs.Prelude.{◌≡◌, IfOk};
 ghost use Rattle.pool_core.specs.Reactions.{launch_of, string_of};
 
+use ad_names::job::{CMD, ERR, IN, IWD, OUT};
 use ad_tree::{Ad, Expr};
 use ad_value::{Copied, Memory, Seq, Text, Value};
 use pool_outer::Launch;
@@ -11,12 +12,12 @@ pub(crate) fn launch_of(alloc: Global, ad: &Ad) -> Result<Launch, Memory>
     ensures { IfOk result (λ l. l ≡ launch_of ad.now) }
 {
     Ok(Launch {
-        program: string_of(alloc, ad, "Cmd")?,
+        program: string_of(alloc, ad, CMD)?,
         words: Seq::new(alloc),
-        folder: string_of(alloc, ad, "Iwd")?,
-        input: string_of(alloc, ad, "In")?,
-        output: string_of(alloc, ad, "Out")?,
-        errors: string_of(alloc, ad, "Err")?,
+        folder: string_of(alloc, ad, IWD)?,
+        input: string_of(alloc, ad, IN)?,
+        output: string_of(alloc, ad, OUT)?,
+        errors: string_of(alloc, ad, ERR)?,
     })
 }
 

@@ -3,6 +3,9 @@
 use Rattle.std.specs.Prelude.{ℕ, pos, true, List, [], ◌∷◌, ◌++◌, codes}
 use Rattle.std.specs.Borrow.{Bor}
 use Rattle.ad_value.specs.Content.{truth, integer, text}
+use Rattle.ad_names.specs.declared.job.TheConstants.{ARGS, CLUSTER_ID, CMD, ERR, IN, IWD, JOB_PRIO, JOB_STATUS, JOB_UNIVERSE, OUT, OWNER, PROC_ID, Q_DATE, REQUEST_CPUS, REQUEST_DISK, REQUEST_MEMORY}
+use Rattle.ad_names.specs.declared.matching.TheConstants.{RANK, REQUIREMENTS}
+use Rattle.ad_names.specs.declared.slot.TheConstants.{ARCH, CPUS, DISK, MACHINE, MEMORY, MY_TYPE, NAME, OP_SYS, SLOT_ID, START}
 use Rattle.ad_tree.specs.declared.operator.BinOp.TheVariants.{And, GreaterEqual}
 use Rattle.ad_tree.specs.declared.operator.Scope.TheVariants.{Bare, Target}
 use Rattle.ad_tree.specs.Ad.{Attributes, with_attribute}
@@ -24,9 +27,9 @@ at_least name request =
 
 -- the other ad has as many processors, MiB of memory and KiB of disk as this one asks for
 abbrev pub enough : Tree
-enough = chain (at_least (codes "Cpus") (codes "RequestCpus"))
-    (and_rest And (at_least (codes "Memory") (codes "RequestMemory"))
-    (and_rest And (at_least (codes "Disk") (codes "RequestDisk")) no_rests))
+enough = chain (at_least CPUS.now REQUEST_CPUS.now)
+    (and_rest And (at_least MEMORY.now REQUEST_MEMORY.now)
+    (and_rest And (at_least DISK.now REQUEST_DISK.now) no_rests))
 
 -- the slot's name: the machine's, with the slot's number before it
 abbrev pub slot_name : List ℕ → List ℕ
@@ -35,18 +38,18 @@ slot_name machine = codes "slot1@" ++ machine
 -- the ad of the one slot of a machine, which has so many MiB
 abbrev pub slot_ad : List ℕ → ℕ → Attributes
 slot_ad machine memory =
-    (codes "MyType", text_literal (codes "Machine"))
-    ∷ (codes "Name", text_literal (slot_name machine))
-    ∷ (codes "Machine", text_literal machine)
-    ∷ (codes "SlotID", integer_literal 1)
-    ∷ (codes "OpSys", text_literal (codes "LINUX"))
-    ∷ (codes "Arch", text_literal (codes "X86_64"))
-    ∷ (codes "Cpus", integer_literal 1)
-    ∷ (codes "Memory", integer_literal memory)
-    ∷ (codes "Disk", integer_literal 1048576)
-    ∷ (codes "Start", literal (truth true))
-    ∷ (codes "Requirements", reference Bare (codes "Start"))
-    ∷ (codes "Rank", integer_literal 0)
+    (MY_TYPE.now, text_literal (codes "Machine"))
+    ∷ (NAME.now, text_literal (slot_name machine))
+    ∷ (MACHINE.now, text_literal machine)
+    ∷ (SLOT_ID.now, integer_literal 1)
+    ∷ (OP_SYS.now, text_literal (codes "LINUX"))
+    ∷ (ARCH.now, text_literal (codes "X86_64"))
+    ∷ (CPUS.now, integer_literal 1)
+    ∷ (MEMORY.now, integer_literal memory)
+    ∷ (DISK.now, integer_literal 1048576)
+    ∷ (START.now, literal (truth true))
+    ∷ (REQUIREMENTS.now, reference Bare START.now)
+    ∷ (RANK.now, integer_literal 0)
     ∷ []
 
 -- the one slot of a machine, the first of the pool
@@ -60,24 +63,24 @@ machine_slot machine memory = record {
 -- the ad of a job that runs a program in so many MiB, submitted at a reading
 abbrev pub job_ad : List ℕ → ℕ → ℕ → Attributes
 job_ad program request reading =
-    (codes "ClusterId", integer_literal 1)
-    ∷ (codes "ProcId", integer_literal 0)
-    ∷ (codes "Owner", text_literal (codes "user"))
-    ∷ (codes "QDate", integer_literal reading)
-    ∷ (codes "JobUniverse", integer_literal 5)
-    ∷ (codes "JobStatus", integer_literal 1)
-    ∷ (codes "Cmd", text_literal program)
-    ∷ (codes "Args", text_literal [])
-    ∷ (codes "Iwd", text_literal [])
-    ∷ (codes "In", text_literal [])
-    ∷ (codes "Out", text_literal [])
-    ∷ (codes "Err", text_literal [])
-    ∷ (codes "JobPrio", integer_literal 0)
-    ∷ (codes "Requirements", enough)
-    ∷ (codes "Rank", integer_literal 0)
-    ∷ (codes "RequestCpus", integer_literal 1)
-    ∷ (codes "RequestMemory", integer_literal request)
-    ∷ (codes "RequestDisk", integer_literal 1024)
+    (CLUSTER_ID.now, integer_literal 1)
+    ∷ (PROC_ID.now, integer_literal 0)
+    ∷ (OWNER.now, text_literal (codes "user"))
+    ∷ (Q_DATE.now, integer_literal reading)
+    ∷ (JOB_UNIVERSE.now, integer_literal 5)
+    ∷ (JOB_STATUS.now, integer_literal 1)
+    ∷ (CMD.now, text_literal program)
+    ∷ (ARGS.now, text_literal [])
+    ∷ (IWD.now, text_literal [])
+    ∷ (IN.now, text_literal [])
+    ∷ (OUT.now, text_literal [])
+    ∷ (ERR.now, text_literal [])
+    ∷ (JOB_PRIO.now, integer_literal 0)
+    ∷ (REQUIREMENTS.now, enough)
+    ∷ (RANK.now, integer_literal 0)
+    ∷ (REQUEST_CPUS.now, integer_literal 1)
+    ∷ (REQUEST_MEMORY.now, integer_literal request)
+    ∷ (REQUEST_DISK.now, integer_literal 1024)
     ∷ []
 
 -- the expression that a row of a table gives

@@ -3,6 +3,12 @@ ghost use Rattle.ad_tree.specs.Tree.{tree, reference};
 ghost use Rattle.ad_tree.specs.declared.operator.Scope.{Scope};
 ghost use Rattle.pool_master.specs.Made.{machine_slot, slot_ad, job_ad, slot_name, integer_literal, text_literal, at_least, enough, given_tree, with_rows};
 
+use ad_names::job::{
+    ARGS, CLUSTER_ID, CMD, ERR, IN, IWD, JOB_PRIO, JOB_STATUS, JOB_UNIVERSE, OUT, OWNER, PROC_ID,
+    Q_DATE, REQUEST_CPUS, REQUEST_DISK, REQUEST_MEMORY,
+};
+use ad_names::matching::{RANK, REQUIREMENTS};
+use ad_names::slot::{ARCH, CPUS, DISK, MACHINE, MEMORY, MY_TYPE, NAME, OP_SYS, SLOT_ID, START};
 use ad_tree::{Ad, BinOp, Expr, Rest, RestList, Scope};
 use ad_value::{Memory, Text, Value};
 use pool_core::{SlotAd, SlotId};
@@ -48,18 +54,18 @@ pub fn slot_ad<'a>(
     ensures { IfOk result (λ a. a ≡ slot_ad machine.now memory) }
 {
     let rows = [
-        ("MyType", Given::Text("Machine")),
-        ("Name", Given::Text(name)),
-        ("Machine", Given::Text(machine)),
-        ("SlotID", Given::Integer(1)),
-        ("OpSys", Given::Text("LINUX")),
-        ("Arch", Given::Text("X86_64")),
-        ("Cpus", Given::Integer(1)),
-        ("Memory", Given::Integer(memory)),
-        ("Disk", Given::Integer(1_048_576)),
-        ("Start", Given::Truth(true)),
-        ("Requirements", Given::Name("Start")),
-        ("Rank", Given::Integer(0)),
+        (MY_TYPE, Given::Text("Machine")),
+        (NAME, Given::Text(name)),
+        (MACHINE, Given::Text(machine)),
+        (SLOT_ID, Given::Integer(1)),
+        (OP_SYS, Given::Text("LINUX")),
+        (ARCH, Given::Text("X86_64")),
+        (CPUS, Given::Integer(1)),
+        (MEMORY, Given::Integer(memory)),
+        (DISK, Given::Integer(1_048_576)),
+        (START, Given::Truth(true)),
+        (REQUIREMENTS, Given::Name(START)),
+        (RANK, Given::Integer(0)),
     ];
     ad_of(alloc, &rows)
 }
@@ -71,24 +77,24 @@ pub fn job_ad(alloc: Global, program: &str, request: u64, reading: u64) -> Resul
     ensures { IfOk result (λ a. a ≡ job_ad program.now request reading) }
 {
     let rows = [
-        ("ClusterId", Given::Integer(1)),
-        ("ProcId", Given::Integer(0)),
-        ("Owner", Given::Text("user")),
-        ("QDate", Given::Integer(reading)),
-        ("JobUniverse", Given::Integer(5)),
-        ("JobStatus", Given::Integer(1)),
-        ("Cmd", Given::Text(program)),
-        ("Args", Given::Text("")),
-        ("Iwd", Given::Text("")),
-        ("In", Given::Text("")),
-        ("Out", Given::Text("")),
-        ("Err", Given::Text("")),
-        ("JobPrio", Given::Integer(0)),
-        ("Requirements", Given::Enough),
-        ("Rank", Given::Integer(0)),
-        ("RequestCpus", Given::Integer(1)),
-        ("RequestMemory", Given::Integer(request)),
-        ("RequestDisk", Given::Integer(1024)),
+        (CLUSTER_ID, Given::Integer(1)),
+        (PROC_ID, Given::Integer(0)),
+        (OWNER, Given::Text("user")),
+        (Q_DATE, Given::Integer(reading)),
+        (JOB_UNIVERSE, Given::Integer(5)),
+        (JOB_STATUS, Given::Integer(1)),
+        (CMD, Given::Text(program)),
+        (ARGS, Given::Text("")),
+        (IWD, Given::Text("")),
+        (IN, Given::Text("")),
+        (OUT, Given::Text("")),
+        (ERR, Given::Text("")),
+        (JOB_PRIO, Given::Integer(0)),
+        (REQUIREMENTS, Given::Enough),
+        (RANK, Given::Integer(0)),
+        (REQUEST_CPUS, Given::Integer(1)),
+        (REQUEST_MEMORY, Given::Integer(request)),
+        (REQUEST_DISK, Given::Integer(1024)),
     ];
     ad_of(alloc, &rows)
 }
@@ -134,9 +140,9 @@ fn reference_to(alloc: Global, scope: Scope, name: &str) -> Result<Expr, Memory>
 fn enough(alloc: Global) -> Result<Expr, Memory>
     ensures { IfOk result (λ e. tree e ≡ enough) }
 {
-    let cpus = at_least(alloc, "Cpus", "RequestCpus")?;
-    let memory = at_least(alloc, "Memory", "RequestMemory")?;
-    let disk = at_least(alloc, "Disk", "RequestDisk")?;
+    let cpus = at_least(alloc, CPUS, REQUEST_CPUS)?;
+    let memory = at_least(alloc, MEMORY, REQUEST_MEMORY)?;
+    let disk = at_least(alloc, DISK, REQUEST_DISK)?;
     let mut items = Vec::new(alloc);
     items.push(Rest {
         op: BinOp::And,
