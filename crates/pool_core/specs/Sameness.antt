@@ -16,4 +16,5 @@ abbrev pub same_ad : Attributes → Attributes → Bool
 same_ad a b = same_code (attributes_code.code a) (attributes_code.code b)
 
 abbrev pub same_ads : List Attributes → List Attributes → Bool
-same_ads xs ys = same_code ((coded_list attributes_code).code xs) ((coded_list attributes_code).code ys)
+same_ads xs ys =
+    same_code ((coded_list attributes_code).code xs) ((coded_list attributes_code).code ys)
