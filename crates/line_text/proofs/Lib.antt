@@ -1,10 +1,12 @@
 pub mod Boundaries
+pub mod Frames
+pub mod LawLemmas
+pub mod OneOutcome
 pub mod Left
 pub mod LineLemmas
-pub mod TableLemmas
-pub mod WordLemmas
 pub mod Pieces
 pub mod Progresses
-pub mod Stretches
 pub mod Steps
-pub mod Frames
+pub mod Stretches
+pub mod TableLemmas
+pub mod WordLemmas

@@ -1,8 +1,10 @@
 pub mod Above
 pub mod Expansion
 pub mod Lines
+pub mod LogicalLines
 pub mod Macros
 pub mod Next
+pub mod Quoting
 pub mod References
 pub mod UnderWay
 pub mod Words

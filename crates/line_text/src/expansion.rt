@@ -236,7 +236,8 @@ impl<'a> Expansion<'a> {
         requires stop { stretch_length current.rest.now ≡ 0 }
         requires ended { reference_at current.rest.now ≡ ended }
         ensures sound { IsSound self.new }
-        ensures less { work_left self.new < work_left self.old + (length current.entry.rest.now + 1) }
+        ensures less { work_left self.new
+            < work_left self.old + (length current.entry.rest.now + 1) }
         ensures given { self.new.given.now ≡ self.old.given.now }
         ensures table { self.new.table.now ≡ self.old.table.now }
     {

@@ -3,6 +3,7 @@
 
 mod error;
 mod expansion;
+pub mod laws;
 mod logical;
 mod reference;
 mod table;

@@ -78,7 +78,7 @@ fn begins_reference(bytes: &[u8]) -> bool
 }
 
 /// The reference that a text begins with, where one begins. Computes in O(bytes of the reference).
-#[tactic(auto, unfolding(crate::specs::References::reference_at), using(crate::proofs::Boundaries::past_open))]
+#[tactic(auto, unfolding(crate::specs::References::reference_at))]
 pub fn reference(text: &str) -> Next<'_>
     ensures { reference_of result ≡ reference_at text.now }
 {
@@ -89,7 +89,9 @@ pub fn reference(text: &str) -> Next<'_>
     if byte_at(bytes, 1) != b'(' {
         return Next::Bad;
     }
-    after_open(&text[2..])
+    #[tactic(auto, using(crate::proofs::Boundaries::past_open))]
+    let inner = &text[2..];
+    after_open(inner)
 }
 
 // The reference of which `$(` was read.
@@ -123,7 +125,6 @@ fn after_name<'a>(name: &'a str, after: &'a str) -> Next<'a>
 }
 
 // The reference with a default text, which ends at the first `)`.
-#[tactic(auto, using(crate::proofs::Boundaries::close_boundary, crate::proofs::Boundaries::past_close))]
 fn with_default<'a>(name: &'a str, after: &'a str) -> Next<'a>
     ensures { reference_of result ≡ with_default name.now after.now }
 {
@@ -131,10 +132,14 @@ fn with_default<'a>(name: &'a str, after: &'a str) -> Next<'a>
     if close == after.len() {
         return Next::Bad;
     }
+    #[tactic(auto, using(crate::proofs::Boundaries::close_boundary))]
+    let default = &after[..close];
+    #[tactic(auto, using(crate::proofs::Boundaries::past_close))]
+    let rest = &after[close + 1..];
     Next::Reference {
         name,
-        default: &after[..close],
-        rest: &after[close + 1..],
+        default,
+        rest,
     }
 }
 
