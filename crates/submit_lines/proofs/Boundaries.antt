@@ -81,3 +81,7 @@ past_pair bs first second utf8 h some ascii =
     two [] e = absurd (omega (arith, e, some))
     two (x ∷ []) e = absurd (omega (arith, e, some))
     two (x ∷ (y ∷ ys)) e = omega arith
+
+pub ruleset item_cuts = (separator_boundary, past_separator)
+
+pub ruleset outer_cuts = (past_first, before_last)

@@ -149,3 +149,9 @@ plain_at bs xs ys n e f g = rw (cut_at bs xs n f, g, e) (plain_run bs)
 
 pub paired_at : (bs xs ys : List ℕ) (n : ℕ) → n ≡ at 34 bs → xs ≡ slice_range bs 0 n → ys ≡ drop n bs → paired bs ≡ option_map (λ r. xs ++ r) (paired ys)
 paired_at bs xs ys n e f g = rw (cut_at bs xs n f, g, e) (paired_run bs)
+
+pub ruleset plain_pieces = (plain_escaped, plain_lone, plain_run, run_some)
+
+pub ruleset paired_pieces = (paired_two, paired_lone, paired_run, run_some)
+
+pub ruleset item_pieces = (items_first, items_last)

@@ -22,7 +22,7 @@ pub fn plain_arguments(alloc: Global, text: &str) -> Result<Text, Memory>
 }
 
 // What stands first, and the text after it.
-#[tactic(auto, using(crate::proofs::Pieces::plain_escaped, crate::proofs::Pieces::plain_lone, crate::proofs::Pieces::plain_run, crate::proofs::Pieces::run_some, crate::proofs::Boundaries::past_first, crate::proofs::Boundaries::past_second, crate::proofs::Boundaries::stop_boundary))]
+#[tactic(auto, using(crate::proofs::Pieces::plain_pieces, crate::proofs::Boundaries::past_first))]
 fn next_piece(text: &str) -> (&str, &str)
     requires { 0 < length text.now }
     ensures value { plain_arguments text.now ≡ result.0.now ++ plain_arguments result.1.now }
@@ -77,7 +77,7 @@ fn paired(alloc: Global, text: &str) -> Result<Option<Text>, Memory>
 }
 
 // What stands first, and the text after it. None for a quote alone.
-#[tactic(auto, using(crate::proofs::Pieces::paired_two, crate::proofs::Pieces::paired_lone, crate::proofs::Pieces::paired_run, crate::proofs::Pieces::run_some, crate::proofs::Boundaries::past_second, crate::proofs::Boundaries::stop_boundary))]
+#[tactic(auto, using(crate::proofs::Pieces::paired_pieces))]
 fn next_paired(text: &str) -> Option<(&str, &str)>
     requires { 0 < length text.now }
     ensures value { MatchOption result (paired text.now ≡ None) (λ x.

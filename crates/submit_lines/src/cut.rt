@@ -5,7 +5,7 @@ ghost use Rattle.submit_lines.specs.Arguments.{between};
 
 /// What stands between a byte at the start and another at the end, both ASCII, without memory.
 /// Computes in O(1).
-#[tactic(auto, using(crate::proofs::Boundaries::past_first, crate::proofs::Boundaries::before_last))]
+#[tactic(auto, using(crate::proofs::Boundaries::outer_cuts))]
 pub(crate) fn between(text: &str, opening: u8, closing: u8) -> Option<&str>
     requires opening { opening < 128 }
     requires closing { closing < 128 }

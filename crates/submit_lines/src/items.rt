@@ -60,7 +60,7 @@ fn add_item(alloc: Global, items: &mut TextList, item: &str) -> Result<(), Memor
 }
 
 // The item that stands first, perhaps empty, and the text after the separator behind it.
-#[tactic(auto, using(crate::proofs::Pieces::items_first, crate::proofs::Pieces::items_last, crate::proofs::Boundaries::separator_boundary, crate::proofs::Boundaries::past_separator))]
+#[tactic(auto, using(crate::proofs::Pieces::item_pieces, crate::proofs::Boundaries::item_cuts))]
 fn next_item(text: &str) -> (&str, &str)
     requires { 0 < length text.now }
     ensures value { items_of text.now ≡ with_item result.0.now (items_of result.1.now) }

@@ -1,0 +1,4 @@
+pub mod Commands
+pub mod Requirements
+pub mod Values
+pub mod JobAds

@@ -1,0 +1,23 @@
+-- What a job asks of a machine.
+use Rattle.std.specs.Prelude.{ℕ, List, codes}
+use Rattle.ad_tree.specs.declared.operator.BinOp.TheVariants.{And, GreaterEqual}
+use Rattle.ad_tree.specs.declared.operator.Scope.TheVariants.{Bare, Target}
+use Rattle.ad_tree.specs.Tree.{Tree, reference, chain, no_rests, and_rest}
+
+-- TARGET.NAME >= REQUEST
+abbrev pub at_least : List ℕ → List ℕ → Tree
+at_least name request =
+    chain (reference Target name) (and_rest GreaterEqual (reference Bare request) no_rests)
+
+-- the machine has as many processors, MiB of memory and KiB of disk as the job asks for
+abbrev pub enough : Tree
+enough = chain (at_least (codes "Cpus") (codes "RequestCpus"))
+    (and_rest And (at_least (codes "Memory") (codes "RequestMemory"))
+    (and_rest And (at_least (codes "Disk") (codes "RequestDisk")) no_rests))
+
+-- the same behind the user's expression, which is one operand of the chain
+abbrev pub with_enough : Tree → Tree
+with_enough e = chain e
+    (and_rest And (at_least (codes "Cpus") (codes "RequestCpus"))
+    (and_rest And (at_least (codes "Memory") (codes "RequestMemory"))
+    (and_rest And (at_least (codes "Disk") (codes "RequestDisk")) no_rests)))

@@ -1,0 +1,83 @@
+ghost use Rattle.std.specs.Prelude.{◌≡◌, IfOk};
+ghost use Rattle.ad_tree.specs.Tree.{tree, reference};
+ghost use Rattle.submit_values.specs.Requirements.{at_least, enough, with_enough};
+
+use ad_tree::{BinOp, Expr, Rest, RestList, Scope};
+use ad_value::{Memory, Text};
+use std::alloc::Global;
+
+/// `TARGET.Cpus >= RequestCpus && TARGET.Memory >= RequestMemory && TARGET.Disk >= RequestDisk`
+pub(crate) fn enough(alloc: Global) -> Result<Expr, Memory>
+    ensures { IfOk result (λ e. tree e ≡ enough) }
+{
+    let cpus = at_least(alloc, "Cpus", "RequestCpus")?;
+    let memory = at_least(alloc, "Memory", "RequestMemory")?;
+    let disk = at_least(alloc, "Disk", "RequestDisk")?;
+    let mut items = Vec::new(alloc);
+    items.push(Rest {
+        op: BinOp::And,
+        arg: memory,
+    })?;
+    items.push(Rest {
+        op: BinOp::And,
+        arg: disk,
+    })?;
+    let first = Box::new(alloc, cpus)?;
+    Ok(Expr::Chain {
+        first,
+        rest: RestList { items },
+    })
+}
+
+/// The expression, and behind `&&` what the job asks for: its first operand is the expression.
+pub(crate) fn with_enough(alloc: Global, expr: Expr) -> Result<Expr, Memory>
+    ensures { IfOk result (λ e. tree e ≡ with_enough (tree expr)) }
+{
+    let cpus = at_least(alloc, "Cpus", "RequestCpus")?;
+    let memory = at_least(alloc, "Memory", "RequestMemory")?;
+    let disk = at_least(alloc, "Disk", "RequestDisk")?;
+    let mut items = Vec::new(alloc);
+    items.push(Rest {
+        op: BinOp::And,
+        arg: cpus,
+    })?;
+    items.push(Rest {
+        op: BinOp::And,
+        arg: memory,
+    })?;
+    items.push(Rest {
+        op: BinOp::And,
+        arg: disk,
+    })?;
+    let first = Box::new(alloc, expr)?;
+    Ok(Expr::Chain {
+        first,
+        rest: RestList { items },
+    })
+}
+
+// `TARGET.NAME >= REQUEST`
+fn at_least(alloc: Global, name: &str, request: &str) -> Result<Expr, Memory>
+    ensures { IfOk result (λ e. tree e ≡ at_least name.now request.now) }
+{
+    let first = Box::new(alloc, reference(alloc, Scope::Target, name)?)?;
+    let arg = reference(alloc, Scope::Bare, request)?;
+    let mut items = Vec::new(alloc);
+    items.push(Rest {
+        op: BinOp::GreaterEqual,
+        arg,
+    })?;
+    Ok(Expr::Chain {
+        first,
+        rest: RestList { items },
+    })
+}
+
+fn reference(alloc: Global, scope: Scope, name: &str) -> Result<Expr, Memory>
+    ensures { IfOk result (λ e. tree e ≡ reference scope name.now) }
+{
+    Ok(Expr::Ref {
+        scope,
+        name: Text::from_str(alloc, name)?,
+    })
+}
