@@ -9,7 +9,8 @@ use Rattle.submit_lines.specs.declared.line.SubmitLine.{SubmitLine}
 use Rattle.submit_lines.specs.declared.line.SubmitLine.TheVariants as line
 use Rattle.submit_lines.specs.declared.line.LineFault.{LineFault}
 use Rattle.submit_lines.specs.declared.line.LineFault.TheVariants as fault
-use Rattle.submit_lines.specs.Names.{macro_name, after_name, is_attribute_name, is_reserved, is_unsupported, past_my}
+use Rattle.submit_lines.specs.Names.{macro_name, after_name, is_reserved, is_unsupported, past_my}
+use Rattle.ad_token.specs.Names.{is_name}
 
 -- a name and its value, the same of an attribute's own line, or a queue statement
 pub data Said : Type 0 where
@@ -37,7 +38,7 @@ value_of bs = if slice_index bs 0 == code "=" then Some (trimmed_text (drop 1 bs
 -- an attribute's own line
 abbrev pub attribute_line : List ℕ → List ℕ → LineResult
 attribute_line name value =
-    if is_attribute_name name && not (is_reserved name) then Ok (attribute name value)
+    if is_name name && not (is_reserved name) then Ok (attribute name value)
     else Err fault.Bad
 
 -- what follows `+`

@@ -1,9 +1,11 @@
 -- Names in submit files (HTCondor manual, "Submitting a job").
 use Rattle.ad_value.specs.Bytes.{code}
-use Rattle.std.specs.Prelude.{ℕ, ◌==◌, ◌&&◌, ◌||◌, not, nat_eq, nat_lt, Bool, List, length, take, drop, codes, Option, Some, None, is_some, if◌then◌else◌}
-use Rattle.std.specs.List.{prefix_len, position_or_len, before_first, after_first}
+use Rattle.std.specs.Prelude.{ℕ, ◌==◌, ◌&&◌, ◌||◌, not, nat_eq, nat_lt, Bool, List, length, take, drop, codes, Option, Some, None, if◌then◌else◌}
+use Rattle.std.specs.List.{list_any, prefix_len, position_or_len, before_first, after_first}
 use Rattle.ad_value.specs.Names.{same_name}
-use Rattle.ad_token.specs.Names.{is_name_byte, name_length, is_too_long, word_of}
+use Rattle.ad_names.specs.declared.job.TheConstants.{CLUSTER_ID, PROC_ID, OWNER, Q_DATE, JOB_STATUS}
+use Rattle.ad_names.specs.Groups.{run_names}
+use Rattle.ad_token.specs.Names.{is_name_byte, name_length}
 use Rattle.ad_parse.specs.AdText.{past_blanks}
 
 -- a byte of a macro's name
@@ -23,11 +25,6 @@ abbrev pub is_plain_name : List ℕ → Bool
 is_plain_name name =
     not (nat_eq (length name) 0) && nat_eq (name_length name) (length name)
 
--- a name that an attribute may have: no longer than 128 bytes, and no word of expressions
-abbrev pub is_attribute_name : List ℕ → Bool
-is_attribute_name name =
-    is_plain_name name && (not (is_too_long name) && not (is_some (word_of name)))
-
 -- the macros that each job has for itself
 unfoldable pub is_built_in : List ℕ → Bool
 is_built_in name =
@@ -37,10 +34,9 @@ is_built_in name =
 -- attributes that no line may set
 unfoldable pub is_reserved : List ℕ → Bool
 is_reserved name =
-    same_name name (codes "ClusterId") || (same_name name (codes "ProcId")
-    || (same_name name (codes "Owner") || (same_name name (codes "QDate")
-    || (same_name name (codes "JobStatus") || (same_name name (codes "RunClaim")
-    || (same_name name (codes "RunNumber") || same_name name (codes "LeaseUntil")))))))
+    same_name name CLUSTER_ID.now || (same_name name PROC_ID.now
+    || (same_name name OWNER.now || (same_name name Q_DATE.now
+    || (same_name name JOB_STATUS.now || list_any (same_name name) run_names))))
 
 -- commands that this pool has no use for
 unfoldable pub is_unsupported : List ℕ → Bool

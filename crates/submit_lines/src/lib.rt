@@ -16,6 +16,6 @@ pub use amount::{Amount, AmountUnit, read_amount};
 pub use arguments::{plain_arguments, quoted_arguments};
 pub use blanks::trimmed_text;
 pub use line::{LineFault, SubmitLine, read_line};
-pub use name::{is_attribute_name, is_built_in};
+pub use name::is_built_in;
 pub use number::{decimal, integer};
 pub use queue::{Over, Queue, read_queue};

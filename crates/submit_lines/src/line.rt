@@ -3,8 +3,8 @@ ghost use Rattle.std.specs.Option.{option_map};
 ghost use Rattle.submit_lines.specs.Lines.{line_said, value_of, plus_line, attribute_line, plain_line, named_line, ends_at, queue_line, line_of};
 
 use crate::blanks::trimmed_text;
-use crate::name::{cut_name, is_attribute_name, is_reserved, is_unsupported, past_my};
-use ad_token::is_blank;
+use crate::name::{cut_name, is_reserved, is_unsupported, past_my};
+use ad_token::{is_blank, is_name};
 use thiserror::Error;
 
 /// What a line of a submit file says.
@@ -77,7 +77,7 @@ fn plus_line(text: &str) -> Result<SubmitLine<'_>, LineFault>
 fn attribute_line<'a>(name: &'a str, value: &'a str) -> Result<SubmitLine<'a>, LineFault>
     ensures { line_said result ≡ attribute_line name.now value.now }
 {
-    if !is_attribute_name(name) || is_reserved(name) {
+    if !is_name(name) || is_reserved(name) {
         return Err(LineFault::Bad);
     }
     Ok(SubmitLine::Attribute { name, value })

@@ -1,10 +1,12 @@
 ghost use Rattle.std.specs.Prelude.{◌≡◌, ◌≤◌, length};
 ghost use Rattle.std.specs.List.{prefix_len};
 ghost use Rattle.std.specs.Option.{option_map};
-ghost use Rattle.submit_lines.specs.Names.{is_macro_byte, macro_name, after_name, is_plain_name, is_attribute_name, is_built_in, is_reserved, is_unsupported, is_in, is_variable, past_my};
+ghost use Rattle.submit_lines.specs.Names.{is_macro_byte, macro_name, after_name, is_plain_name, is_built_in, is_reserved, is_unsupported, is_in, is_variable, past_my};
 
 use crate::blanks::past_blanks;
-use ad_token::{MAX_NAME, name_length, word};
+use ad_names::is_run_name;
+use ad_names::job::{CLUSTER_ID, JOB_STATUS, OWNER, PROC_ID, Q_DATE};
+use ad_token::name_length;
 
 fn is_macro_byte(b: u8) -> bool
     ensures { result ≡ is_macro_byte b }
@@ -38,14 +40,6 @@ fn is_plain_name(name: &str) -> bool
     !name.is_empty() && name_length(name.as_bytes()) == name.len()
 }
 
-/// Whether an attribute may have this name: a name of expressions of at most 128 bytes that is no
-/// word of them. Computes in O(bytes).
-pub fn is_attribute_name(name: &str) -> bool
-    ensures { result ≡ is_attribute_name name.now }
-{
-    is_plain_name(name) && name.len() <= MAX_NAME && word(name).is_none()
-}
-
 /// Whether a name is that of a macro which each job has: Cluster, ClusterId, Process, ProcId,
 /// without case. Computes in O(1).
 #[tactic(auto, unfolding(crate::specs::Names::is_built_in))]
@@ -63,14 +57,12 @@ pub fn is_built_in(name: &str) -> bool
 pub(crate) fn is_reserved(name: &str) -> bool
     ensures { result ≡ is_reserved name.now }
 {
-    name.eq_ignore_ascii_case("ClusterId")
-        || name.eq_ignore_ascii_case("ProcId")
-        || name.eq_ignore_ascii_case("Owner")
-        || name.eq_ignore_ascii_case("QDate")
-        || name.eq_ignore_ascii_case("JobStatus")
-        || name.eq_ignore_ascii_case("RunClaim")
-        || name.eq_ignore_ascii_case("RunNumber")
-        || name.eq_ignore_ascii_case("LeaseUntil")
+    name.eq_ignore_ascii_case(CLUSTER_ID)
+        || name.eq_ignore_ascii_case(PROC_ID)
+        || name.eq_ignore_ascii_case(OWNER)
+        || name.eq_ignore_ascii_case(Q_DATE)
+        || name.eq_ignore_ascii_case(JOB_STATUS)
+        || is_run_name(name)
 }
 
 /// Whether a command is one that this pool has no use for. Computes in O(1).

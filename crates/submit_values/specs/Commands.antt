@@ -2,6 +2,8 @@
 -- "Job ClassAd Attributes").
 use Rattle.ad_value.specs.Bytes.{code}
 use Rattle.std.specs.Prelude.{ℕ, ◌==◌, List, [], ◌∷◌, codes, slice_index, if◌then◌else◌}
+use Rattle.ad_names.specs.declared.job.TheConstants.{ARGS, ARGUMENTS, CMD, ERR, IN, IWD, JOB_LEASE_DURATION, JOB_PRIO, ON_EXIT_HOLD, ON_EXIT_REMOVE, OUT, PERIODIC_HOLD, PERIODIC_RELEASE, PERIODIC_REMOVE, REQUEST_CPUS, REQUEST_DISK, REQUEST_MEMORY, USER_LOG}
+use Rattle.ad_names.specs.declared.matching.TheConstants.{REQUIREMENTS, RANK}
 use Rattle.submit_values.specs.declared.command.Command.{Command}
 use Rattle.submit_values.specs.declared.command.Command.TheVariants.{Executable, Arguments, Universe, InitialDir, Input, Output, Error, Log, Priority, Requirements, Rank, RequestCpus, RequestMemory, RequestDisk, JobLeaseDuration, OnExitHold, OnExitRemove, PeriodicHold, PeriodicRemove, PeriodicRelease}
 
@@ -29,24 +31,24 @@ command_name PeriodicRelease = codes "periodic_release"
 
 -- arguments in double quotes are another attribute; the universe sets none
 abbrev pub attribute_name : Command → List ℕ → List ℕ
-attribute_name Executable text = codes "Cmd"
+attribute_name Executable text = CMD.now
 attribute_name Arguments text =
-    if slice_index text 0 == code "\"" then codes "Arguments" else codes "Args"
+    if slice_index text 0 == code "\"" then ARGUMENTS.now else ARGS.now
 attribute_name Universe text = []
-attribute_name InitialDir text = codes "Iwd"
-attribute_name Input text = codes "In"
-attribute_name Output text = codes "Out"
-attribute_name Error text = codes "Err"
-attribute_name Log text = codes "UserLog"
-attribute_name Priority text = codes "JobPrio"
-attribute_name Requirements text = codes "Requirements"
-attribute_name Rank text = codes "Rank"
-attribute_name RequestCpus text = codes "RequestCpus"
-attribute_name RequestMemory text = codes "RequestMemory"
-attribute_name RequestDisk text = codes "RequestDisk"
-attribute_name JobLeaseDuration text = codes "JobLeaseDuration"
-attribute_name OnExitHold text = codes "OnExitHold"
-attribute_name OnExitRemove text = codes "OnExitRemove"
-attribute_name PeriodicHold text = codes "PeriodicHold"
-attribute_name PeriodicRemove text = codes "PeriodicRemove"
-attribute_name PeriodicRelease text = codes "PeriodicRelease"
+attribute_name InitialDir text = IWD.now
+attribute_name Input text = IN.now
+attribute_name Output text = OUT.now
+attribute_name Error text = ERR.now
+attribute_name Log text = USER_LOG.now
+attribute_name Priority text = JOB_PRIO.now
+attribute_name Requirements text = REQUIREMENTS.now
+attribute_name Rank text = RANK.now
+attribute_name RequestCpus text = REQUEST_CPUS.now
+attribute_name RequestMemory text = REQUEST_MEMORY.now
+attribute_name RequestDisk text = REQUEST_DISK.now
+attribute_name JobLeaseDuration text = JOB_LEASE_DURATION.now
+attribute_name OnExitHold text = ON_EXIT_HOLD.now
+attribute_name OnExitRemove text = ON_EXIT_REMOVE.now
+attribute_name PeriodicHold text = PERIODIC_HOLD.now
+attribute_name PeriodicRemove text = PERIODIC_REMOVE.now
+attribute_name PeriodicRelease text = PERIODIC_RELEASE.now

@@ -1,22 +1,17 @@
 -- The ad of a job, attribute by attribute.
-use Rattle.std.specs.Prelude.{ℕ, ◌+◌, ◌||◌, not, nat_le, Bool, List, [], ◌∷◌, length, map, codes, count_by, slice_get, Option, Some, None, if◌then◌else◌}
+use Rattle.std.specs.Prelude.{ℕ, ◌+◌, not, nat_le, Bool, List, [], ◌∷◌, length, map, count_by, slice_get, Option, Some, None, if◌then◌else◌}
+use Rattle.std.specs.List.{list_any}
 use Rattle.std.specs.Option.{option_map_or}
+use Rattle.ad_names.specs.Groups.{pool_names}
 use Rattle.ad_value.specs.Names.{same_name}
 use Rattle.ad_tree.specs.Tree.{Tree}
 use Rattle.ad_tree.specs.Ad.{Attributes, with_attribute}
 use Rattle.ad_parse.specs.AdText.{is_full_for}
 use Rattle.submit_values.specs.declared.job_ad.TheConstants.{MAX_OWN_ATTRIBUTES}
 
--- what the pool sets in the ad of a job in its queue
-unfoldable pub is_pool_attribute : List ℕ → Bool
-is_pool_attribute x =
-    same_name x (codes "JobStatus") || (same_name x (codes "HoldReason")
-    || (same_name x (codes "ExitBySignal") || (same_name x (codes "ExitCode")
-    || (same_name x (codes "ExitSignal") || (same_name x (codes "RunClaim")
-    || (same_name x (codes "RunNumber") || same_name x (codes "LeaseUntil")))))))
-
+-- an attribute that the pool does not set itself
 abbrev pub is_own : List ℕ × Tree → Bool
-is_own a = not (is_pool_attribute a.0)
+is_own a = not (list_any (same_name a.0) pool_names)
 
 -- how many other attributes there are
 abbrev pub own_attributes : Attributes → ℕ

@@ -1,5 +1,7 @@
 -- What a job asks of a machine.
-use Rattle.std.specs.Prelude.{ℕ, List, codes}
+use Rattle.std.specs.Prelude.{ℕ, List}
+use Rattle.ad_names.specs.declared.job.TheConstants.{REQUEST_CPUS, REQUEST_DISK, REQUEST_MEMORY}
+use Rattle.ad_names.specs.declared.slot.TheConstants.{CPUS, DISK, MEMORY}
 use Rattle.ad_tree.specs.declared.operator.BinOp.TheVariants.{And, GreaterEqual}
 use Rattle.ad_tree.specs.declared.operator.Scope.TheVariants.{Bare, Target}
 use Rattle.ad_tree.specs.Tree.{Tree, reference, chain, no_rests, and_rest}
@@ -11,13 +13,13 @@ at_least name request =
 
 -- the machine has as many processors, MiB of memory and KiB of disk as the job asks for
 abbrev pub enough : Tree
-enough = chain (at_least (codes "Cpus") (codes "RequestCpus"))
-    (and_rest And (at_least (codes "Memory") (codes "RequestMemory"))
-    (and_rest And (at_least (codes "Disk") (codes "RequestDisk")) no_rests))
+enough = chain (at_least CPUS.now REQUEST_CPUS.now)
+    (and_rest And (at_least MEMORY.now REQUEST_MEMORY.now)
+    (and_rest And (at_least DISK.now REQUEST_DISK.now) no_rests))
 
 -- the same behind the user's expression, which is one operand of the chain
 abbrev pub with_enough : Tree → Tree
 with_enough e = chain e
-    (and_rest And (at_least (codes "Cpus") (codes "RequestCpus"))
-    (and_rest And (at_least (codes "Memory") (codes "RequestMemory"))
-    (and_rest And (at_least (codes "Disk") (codes "RequestDisk")) no_rests)))
+    (and_rest And (at_least CPUS.now REQUEST_CPUS.now)
+    (and_rest And (at_least MEMORY.now REQUEST_MEMORY.now)
+    (and_rest And (at_least DISK.now REQUEST_DISK.now) no_rests)))

@@ -1,6 +1,13 @@
 ghost use Rattle.std.specs.Prelude.{◌≡◌};
 ghost use Rattle.submit_values.specs.Commands.{command_name, attribute_name};
 
+use ad_names::job::{
+    ARGS, ARGUMENTS, CMD, ERR, IN, IWD, JOB_LEASE_DURATION, JOB_PRIO, ON_EXIT_HOLD, ON_EXIT_REMOVE,
+    OUT, PERIODIC_HOLD, PERIODIC_RELEASE, PERIODIC_REMOVE, REQUEST_CPUS, REQUEST_DISK,
+    REQUEST_MEMORY, USER_LOG,
+};
+use ad_names::matching::{RANK, REQUIREMENTS};
+
 /// A command that makes an attribute of a job, or that is looked at for it.
 #[derive(Clone, Copy, Debug, PartialEq, Eq)]
 pub enum Command {
@@ -61,27 +68,27 @@ impl Command {
         ensures { result.now ≡ attribute_name self text.now }
     {
         match self {
-            Command::Executable => "Cmd",
-            Command::Arguments if text.starts_with('"') => "Arguments",
-            Command::Arguments => "Args",
+            Command::Executable => CMD,
+            Command::Arguments if text.starts_with('"') => ARGUMENTS,
+            Command::Arguments => ARGS,
             Command::Universe => "",
-            Command::InitialDir => "Iwd",
-            Command::Input => "In",
-            Command::Output => "Out",
-            Command::Error => "Err",
-            Command::Log => "UserLog",
-            Command::Priority => "JobPrio",
-            Command::Requirements => "Requirements",
-            Command::Rank => "Rank",
-            Command::RequestCpus => "RequestCpus",
-            Command::RequestMemory => "RequestMemory",
-            Command::RequestDisk => "RequestDisk",
-            Command::JobLeaseDuration => "JobLeaseDuration",
-            Command::OnExitHold => "OnExitHold",
-            Command::OnExitRemove => "OnExitRemove",
-            Command::PeriodicHold => "PeriodicHold",
-            Command::PeriodicRemove => "PeriodicRemove",
-            Command::PeriodicRelease => "PeriodicRelease",
+            Command::InitialDir => IWD,
+            Command::Input => IN,
+            Command::Output => OUT,
+            Command::Error => ERR,
+            Command::Log => USER_LOG,
+            Command::Priority => JOB_PRIO,
+            Command::Requirements => REQUIREMENTS,
+            Command::Rank => RANK,
+            Command::RequestCpus => REQUEST_CPUS,
+            Command::RequestMemory => REQUEST_MEMORY,
+            Command::RequestDisk => REQUEST_DISK,
+            Command::JobLeaseDuration => JOB_LEASE_DURATION,
+            Command::OnExitHold => ON_EXIT_HOLD,
+            Command::OnExitRemove => ON_EXIT_REMOVE,
+            Command::PeriodicHold => PERIODIC_HOLD,
+            Command::PeriodicRemove => PERIODIC_REMOVE,
+            Command::PeriodicRelease => PERIODIC_RELEASE,
         }
     }
 }

@@ -1,7 +1,8 @@
 ghost use Rattle.std.specs.Prelude.{◌≡◌, [], OnOk, Some};
 ghost use Rattle.ad_tree.specs.Tree.{tree};
-ghost use Rattle.submit_values.specs.JobAds.{is_pool_attribute, own_attributes, own_at, added, finished};
+ghost use Rattle.submit_values.specs.JobAds.{own_attributes, own_at, added, finished};
 
+use ad_names::is_pool_name;
 use ad_tree::{Ad, Expr, SetError};
 use ad_value::Memory;
 use std::alloc::Global;
@@ -74,22 +75,7 @@ fn own_at(ad: &Ad, place: usize) -> usize
     ensures { result ≡ own_at ad.now place }
 {
     match ad.attribute(place) {
-        Some((name, _)) if !is_pool_attribute(name) => 1,
+        Some((name, _)) if !is_pool_name(name) => 1,
         _ => 0,
     }
-}
-
-// Whether the pool sets an attribute of a job in its queue.
-#[tactic(auto, unfolding(crate::specs::JobAds::is_pool_attribute))]
-fn is_pool_attribute(name: &str) -> bool
-    ensures { result ≡ is_pool_attribute name.now }
-{
-    name.eq_ignore_ascii_case("JobStatus")
-        || name.eq_ignore_ascii_case("HoldReason")
-        || name.eq_ignore_ascii_case("ExitBySignal")
-        || name.eq_ignore_ascii_case("ExitCode")
-        || name.eq_ignore_ascii_case("ExitSignal")
-        || name.eq_ignore_ascii_case("RunClaim")
-        || name.eq_ignore_ascii_case("RunNumber")
-        || name.eq_ignore_ascii_case("LeaseUntil")
 }

@@ -2,6 +2,8 @@ ghost use Rattle.std.specs.Prelude.{◌≡◌, IfOk};
 ghost use Rattle.ad_tree.specs.Tree.{tree, reference};
 ghost use Rattle.submit_values.specs.Requirements.{at_least, enough, with_enough};
 
+use ad_names::job::{REQUEST_CPUS, REQUEST_DISK, REQUEST_MEMORY};
+use ad_names::slot::{CPUS, DISK, MEMORY};
 use ad_tree::{BinOp, Expr, Rest, RestList, Scope};
 use ad_value::{Memory, Text};
 use std::alloc::Global;
@@ -10,9 +12,9 @@ use std::alloc::Global;
 pub(crate) fn enough(alloc: Global) -> Result<Expr, Memory>
     ensures { IfOk result (λ e. tree e ≡ enough) }
 {
-    let cpus = at_least(alloc, "Cpus", "RequestCpus")?;
-    let memory = at_least(alloc, "Memory", "RequestMemory")?;
-    let disk = at_least(alloc, "Disk", "RequestDisk")?;
+    let cpus = at_least(alloc, CPUS, REQUEST_CPUS)?;
+    let memory = at_least(alloc, MEMORY, REQUEST_MEMORY)?;
+    let disk = at_least(alloc, DISK, REQUEST_DISK)?;
     let mut items = Vec::new(alloc);
     items.push(Rest {
         op: BinOp::And,
@@ -33,9 +35,9 @@ pub(crate) fn enough(alloc: Global) -> Result<Expr, Memory>
 pub(crate) fn with_enough(alloc: Global, expr: Expr) -> Result<Expr, Memory>
     ensures { IfOk result (λ e. tree e ≡ with_enough (tree expr)) }
 {
-    let cpus = at_least(alloc, "Cpus", "RequestCpus")?;
-    let memory = at_least(alloc, "Memory", "RequestMemory")?;
-    let disk = at_least(alloc, "Disk", "RequestDisk")?;
+    let cpus = at_least(alloc, CPUS, REQUEST_CPUS)?;
+    let memory = at_least(alloc, MEMORY, REQUEST_MEMORY)?;
+    let disk = at_least(alloc, DISK, REQUEST_DISK)?;
     let mut items = Vec::new(alloc);
     items.push(Rest {
         op: BinOp::And,
