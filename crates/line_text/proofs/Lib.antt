@@ -2,6 +2,7 @@ pub mod Boundaries
 pub mod Frames
 pub mod LawLemmas
 pub mod OneOutcome
+pub mod OneRefusal
 pub mod Left
 pub mod LineLemmas
 pub mod Pieces

@@ -19,10 +19,10 @@ module _ (t : Macros) where
   size (plain e) = 1
   size (replaced r g h) = 1 + (size g + size h)
 
-  clash : {x : Reference} {n d r : List ℕ} → x ≡ ended → x ≡ refers n d r → ⊥
+  pub clash : {x : Reference} {n d r : List ℕ} → x ≡ ended → x ≡ refers n d r → ⊥
   clash e f = cc
 
-  clash_broken : {x : Reference} {n d r : List ℕ} → x ≡ broken → x ≡ refers n d r → ⊥
+  pub clash_broken : {x : Reference} {n d r : List ℕ} → x ≡ broken → x ≡ refers n d r → ⊥
   clash_broken e f = cc
 
   clash_both : {x : Reference} → x ≡ ended → x ≡ broken → ⊥
@@ -38,7 +38,7 @@ module _ (t : Macros) where
     same_rest : r ≡ s
     same_rest = ap rest_in same
 
-  sizes_agree : {x y : List ℕ} {ss us : List (List ℕ)} → x ≡ y → (a : Expands t x ss) (b : Expands t y us) → size a ≡ size b
+  pub sizes_agree : {x y : List ℕ} {ss us : List (List ℕ)} → x ≡ y → (a : Expands t x ss) (b : Expands t y us) → size a ≡ size b
   sizes_agree is (plain e) (plain f) = refl
   sizes_agree is (plain e) (replaced f g h) = absurd (clash (sym (ap following is) ∙ e) f)
   sizes_agree is (replaced f g h) (plain e) = absurd (clash (ap following is ∙ e) f)
@@ -68,10 +68,10 @@ module _ (t : Macros) where
   regroup_rest : (p a b c : List (List ℕ)) → p ++ (a ++ (b ++ c)) ≡ (p ++ (a ++ b)) ++ c
   regroup_rest p a b c = ap (λ l. p ++ l) (sym (append_assoc a b c)) ∙ sym (append_assoc p (a ++ b) c)
 
-  put_in_found : (n d : List ℕ) (p : ℕ) (v : List ℕ) → macro_of t n ≡ Some (p, v) → put_in t n d ≡ v
+  pub put_in_found : (n d : List ℕ) (p : ℕ) (v : List ℕ) → macro_of t n ≡ Some (p, v) → put_in t n d ≡ v
   put_in_found n d p v found = ap (λ o. unwrap_or (option_map (λ m. m.1) o) d) found
 
-  put_in_default : (n d : List ℕ) → macro_of t n ≡ None → put_in t n d ≡ d
+  pub put_in_default : (n d : List ℕ) → macro_of t n ≡ None → put_in t n d ≡ d
   put_in_default n d found = ap (λ o. unwrap_or (option_map (λ m. m.1) o) d) found
 
   -- where a text is expanded whole, no refusal is met in it, and what is reached is how it begins

@@ -79,14 +79,14 @@ pub copied_more : (done : Macros) (m : List ℕ × List ℕ) (more whole : Macro
 copied_more done m more whole e distinct =
     ap (λ l. l ++ more) (with_macro-new done m more (subst AreDistinct (sym e) distinct)) ∙ append_assoc done (m ∷ []) more ∙ e
 
-abbrev hit : ℕ → List ℕ → Option (ℕ × List ℕ)
+abbrev pub hit : ℕ → List ℕ → Option (ℕ × List ℕ)
 hit p v = Some (p, v)
 
-abbrev place_in : Option (ℕ × List ℕ) → ℕ
+abbrev pub place_in : Option (ℕ × List ℕ) → ℕ
 place_in None = 0
 place_in (Some f) = f.0
 
-abbrev value_in : Option (ℕ × List ℕ) → List ℕ
+abbrev pub value_in : Option (ℕ × List ℕ) → List ℕ
 value_in None = []
 value_in (Some f) = f.1
 

@@ -1,14 +1,15 @@
 //! What holds of every text, in the words of the manual.
 
-ghost use Rattle.std.specs.Prelude.{◌≡◌, ℕ, List, Some, true, map, chars};
+ghost use Rattle.std.specs.Prelude.{◌≡◌, ◌≢◌, ℕ, List, Some, true, map, chars};
 ghost use Rattle.std.specs.Str.Lines.{lines};
 ghost use Rattle.line_text.specs.Lines.{logical_lines};
 ghost use Rattle.line_text.specs.LogicalLines.{MakeLines};
 ghost use Rattle.line_text.specs.Quoting.{quoted_words, word_bytes};
 ghost use Rattle.line_text.specs.Words.{words_of};
 ghost use Rattle.line_text.specs.Macros.{Macros};
-ghost use Rattle.line_text.specs.Expansion.{Expands, IsExpansion, Meets, Passes};
+ghost use Rattle.line_text.specs.Expansion.{Expands, IsExpansion, IsRefused, Meets, Passes};
 ghost use Rattle.line_text.specs.declared.error.MacroError.{MacroError};
+ghost use Rattle.line_text.specs.declared.error.MacroError.TheVariants as error;
 
 /// Logical lines are the lines of the text, joined where one ends in a backslash, without those
 /// that say nothing, each with the number of its first line.
@@ -36,4 +37,11 @@ pub fn expansions_are_not_refused()
         → IsExpansion t text x → Meets t text e → ⊥ }
     ensures passed { (t : Macros) (text x : List ℕ) (length : ℕ)
         → IsExpansion t text x → Passes t text length → ⊥ }
+{}
+
+/// A text is refused for at most one reason, out of memory apart.
+pub fn refusals_are_one()
+    ensures { (t : Macros) (text : List ℕ) (e f : MacroError)
+        → IsRefused t text e → IsRefused t text f
+        → e ≢ error.Memory → f ≢ error.Memory → e ≡ f }
 {}
