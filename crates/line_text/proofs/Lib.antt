@@ -1,4 +1,5 @@
 pub mod Boundaries
+pub mod EveryOutcome
 pub mod Frames
 pub mod LawLemmas
 pub mod OneOutcome

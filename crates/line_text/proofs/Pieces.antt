@@ -1,6 +1,6 @@
 -- Pieces that are written, and the limit.
-use Rattle.std.proofs.Common.{◌≡◌, ℕ, zero, suc, slice_get, get_or, ◌+◌, ◌-◌, ◌<◌, ◌≤◌, Bool, true, false, cond, ltb, List, [], ◌∷◌, ◌++◌, length, take, drop, length-append, Some, None, refl, ap, sym, ◌∙◌, append_assoc, arith}
-use Rattle.std.proofs.lemmas.Bool.{lt-ltb, le-ltb}
+use Rattle.std.proofs.Common.{◌≡◌, ℕ, zero, suc, slice_get, get_or, ◌+◌, ◌-◌, ◌<◌, ◌≤◌, Bool, true, false, cond, ltb, List, [], ◌∷◌, ◌++◌, length, take, drop, length-append, Some, None, ◌⊎◌, inl, inr, refl, ap, sym, ◌∙◌, append_assoc, arith}
+use Rattle.std.proofs.lemmas.Bool.{cases_lt, lt-ltb, le-ltb}
 use Rattle.std.proofs.lemmas.List.{take_more, take-append-le, drop-append-le, length-drop}
 use Rattle.line_text.specs.Expansion.{piece, joined, total, first_above}
 use Rattle.std.specs.Borrow.{Bor}
@@ -56,6 +56,17 @@ first_above-more n k (x ∷ xs) ys h = by (ltb 65536 (n + length x)) h (first_ab
     by : (b : Bool) → cond b (Some (n + length x)) (first_above (n + length x) xs) ≡ Some k → (first_above (n + length x) xs ≡ Some k → first_above (n + length x) (xs ++ ys) ≡ Some k) → cond b (Some (n + length x)) (first_above (n + length x) (xs ++ ys)) ≡ Some k
     by true h rest = h
     by false h rest = rest h
+
+-- where the whole is above the limit, a first piece is
+pub some_above : (n : ℕ) (ss : List (List ℕ)) → n ≤ 65536 → 65536 < n + total ss → (k : ℕ) × (first_above n ss ≡ Some k)
+some_above n [] fits over = absurd (omega (arith, fits, over))
+some_above n (s ∷ ss) fits over = by (cases_lt 65536 (n + length s)) (some_above (n + length s) ss)
+  where
+    by : (65536 < n + length s) ⊎ (n + length s ≤ 65536) → (n + length s ≤ 65536 → 65536 < (n + length s) + total ss → (k : ℕ) × (first_above (n + length s) ss ≡ Some k)) → (k : ℕ) × (first_above n (s ∷ ss) ≡ Some k)
+    by (inl h) rest = (n + length s, first_here n s ss h)
+    by (inr h) rest =
+        let more = rest h (omega (arith, over)) in
+        (more.0, first_later n s ss h ∙ more.1)
 
 -- a piece that brings what is written above the limit
 pub above_by_piece : (written : List (List ℕ)) (s : List ℕ) (k : ℕ) → total written ≤ 65536 → k ≡ total written + length s → 65536 < total written + length s → first_above 0 (written ++ piece s) ≡ Some k

@@ -1,7 +1,9 @@
 -- How a table's entries show its macros.
-use Rattle.std.proofs.Common.{◌≡◌, ℕ, suc, ◌+◌, Bool, true, false, cond, List, [], ◌∷◌, ◌++◌, length, map, slice_get, Option, Some, None, refl, ap, sym, ◌∙◌, String, string_bytes, subst, append_assoc, ltb, not}
+use Rattle.std.proofs.Common.{◌≡◌, ℕ, suc, ◌+◌, ◌<◌, Bool, true, false, cond, List, [], ◌∷◌, ◌++◌, length, map, slice_get, Option, Some, None, refl, ap, sym, ◌∙◌, String, string_bytes, subst, append_assoc, ltb, not, arith}
 use Rattle.std.specs.Prelude.{unwrap_or}
 use Rattle.std.proofs.lemmas.Option.{slice_get-map}
+use Rattle.std.proofs.lemmas.Bool.{ltb-true}
+use Rattle.std.proofs.lemmas.List.{length-map}
 use Rattle.std.specs.List.{position, prefix_len, IsDistinct, AllByRecursion}
 use Rattle.std.proofs.lemmas.Cmp.{nat_list_eq_equiv}
 use Rattle.std.specs.Option.{option_map}
@@ -100,3 +102,19 @@ value_of_found x ms p v found = by (place_of x ms) found
         no : None ≡ hit p v → ⊥
         no h = cc
     by (Some k) h = sym (ap value_in h) ∙ ap (value_at ms) (ap place_in h)
+
+-- and this place is one of the table
+pub find_within : (x : List ℕ) (ms : Macros) (p : ℕ) (v : List ℕ) → find_macro x ms ≡ Some (p, v) → p < length ms
+find_within x ms p v found = by (ltb first (length (names ms))) refl found
+  where
+    first : ℕ
+    first = prefix_len (λ y. not (bytes_eq x y)) (names ms)
+
+    by : (b : Bool) → ltb first (length (names ms)) ≡ b → option_map {U = ℕ × List ℕ} (λ k. (k, value_at ms k)) (cond b (Some first) None) ≡ hit p v → p < length ms
+    by true less h =
+        let is : first ≡ p = ap place_in h in
+        omega (arith, is, ltb-true first (length (names ms)) less, length-map ms (λ m. m.0))
+    by false less h = absurd (no h)
+      where
+        no : None ≡ hit p v → ⊥
+        no h = cc

@@ -1,6 +1,6 @@
 //! What holds of every text, in the words of the manual.
 
-ghost use Rattle.std.specs.Prelude.{◌≡◌, ◌≢◌, ℕ, List, Some, true, map, chars};
+ghost use Rattle.std.specs.Prelude.{◌≡◌, ◌≢◌, ◌⊎◌, ℕ, List, Some, true, map, chars};
 ghost use Rattle.std.specs.Str.Lines.{lines};
 ghost use Rattle.line_text.specs.Lines.{logical_lines};
 ghost use Rattle.line_text.specs.LogicalLines.{MakeLines};
@@ -44,4 +44,11 @@ pub fn refusals_are_one()
     ensures { (t : Macros) (text : List ℕ) (e f : MacroError)
         → IsRefused t text e → IsRefused t text f
         → e ≢ error.Memory → f ≢ error.Memory → e ≡ f }
+{}
+
+/// A text has an expansion or is refused, out of memory apart.
+pub fn every_text_has_an_outcome()
+    ensures { (t : Macros) (text : List ℕ)
+        → ((x : List ℕ) × IsExpansion t text x)
+        ⊎ ((e : MacroError) × (e ≢ error.Memory) × IsRefused t text e) }
 {}
