@@ -2,14 +2,14 @@ use crate::ads::{job_ads, open_pool};
 use crate::fields::{end_of, first_job, is_first, number};
 use crate::judging::{judge_other, judge_own, no_match};
 use crate::runs::{READING, run_jobs, start_event};
-use anyhow::Result;
+use ad_value::Memory;
 use cases::{Case, CaseError, read_cases};
 use pool_core::{Answer, Course, Event, JobId, SlotId, StepError};
 use std::alloc::{AllocError, Global};
 use std::fmt::Write;
 
 /// Appends an answer a case, a line each.
-pub(crate) fn answer_all(alloc: Global, input: &str, out: &mut String) -> Result<()> {
+pub(crate) fn answer_all(alloc: Global, input: &str, out: &mut String) -> Result<(), CaseError> {
     let cases = read_cases(alloc, input)?;
     answer_each(alloc, cases.as_slice(), &mut None, out)
 }
@@ -19,7 +19,7 @@ fn answer_each(
     cases: &[Case<'_>],
     course: &mut Option<Course>,
     out: &mut String,
-) -> Result<()> {
+) -> Result<(), CaseError> {
     for case in cases {
         answer(alloc, *case, course, out)?;
         out.push('\n')?;
@@ -33,26 +33,31 @@ fn answer(
     case: Case<'_>,
     course: &mut Option<Course>,
     out: &mut String,
-) -> Result<()> {
+) -> Result<(), CaseError> {
     if case.kind == "open" {
         *course = Some(open_course(alloc, case)?);
     }
     match course {
         Some(course) => answer_in(alloc, case, course, out),
-        None => Err(CaseError::Kind { line: case.line }.into()),
+        None => Err(CaseError::Kind { line: case.line }),
     }
 }
 
-fn open_course(alloc: Global, case: Case<'_>) -> Result<Course> {
+fn open_course(alloc: Global, case: Case<'_>) -> Result<Course, CaseError> {
     let (count, start) = case.two_fields()?;
     let start = is_first(case, start, "yes", "no")?;
-    match open_pool(alloc, number(case, count)?, start)? {
+    match or_out_of_memory(open_pool(alloc, number(case, count)?, start))? {
         Some(course) => Ok(course),
-        None => Err(CaseError::Form { line: case.line }.into()),
+        None => Err(CaseError::Form { line: case.line }),
     }
 }
 
-fn answer_in(alloc: Global, case: Case<'_>, course: &mut Course, out: &mut String) -> Result<()> {
+fn answer_in(
+    alloc: Global,
+    case: Case<'_>,
+    course: &mut Course,
+    out: &mut String,
+) -> Result<(), CaseError> {
     match case.kind {
         // It was opened just now.
         "open" => Ok(out.push_str("done")?),
@@ -62,7 +67,15 @@ fn answer_in(alloc: Global, case: Case<'_>, course: &mut Course, out: &mut Strin
         "close" => answer_close(alloc, case, course, out),
         "run" => answer_run(alloc, case, course, out),
         "see" => answer_see(alloc, case, course, out),
-        _ => Err(CaseError::Kind { line: case.line }.into()),
+        _ => Err(CaseError::Kind { line: case.line }),
+    }
+}
+
+// Want of memory as the error that cases know.
+fn or_out_of_memory<T>(made: Result<T, Memory>) -> Result<T, AllocError> {
+    match made {
+        Ok(made) => Ok(made),
+        Err(Memory) => Err(AllocError),
     }
 }
 
@@ -71,10 +84,10 @@ fn answer_submit(
     case: Case<'_>,
     course: &mut Course,
     out: &mut String,
-) -> Result<()> {
+) -> Result<(), CaseError> {
     let (count, requirements) = case.two_fields()?;
     let requirements = is_first(case, requirements, "TRUE", "FALSE")?;
-    let jobs = job_ads(alloc, number(case, count)?, requirements)?;
+    let jobs = or_out_of_memory(job_ads(alloc, number(case, count)?, requirements))?;
     let reading = READING;
     act(alloc, course, Event::Submit { jobs, reading }, out)
 }
@@ -84,15 +97,15 @@ fn answer_start(
     case: Case<'_>,
     course: &mut Course,
     out: &mut String,
-) -> Result<()> {
+) -> Result<(), CaseError> {
     let (cluster, ad) = case.two_fields()?;
     let job = first_job(case, cluster)?;
     let judged = if is_first(case, ad, "own", "other")? {
-        judge_own(alloc, course.pool(), job)?
+        judge_own(alloc, course.pool(), job)
     } else {
-        judge_other(alloc, course.pool())?
+        judge_other(alloc, course.pool())
     };
-    match judged {
+    match or_out_of_memory(judged)? {
         Some(judged) => act(alloc, course, start_event(job, judged), out),
         None => Ok(out.push_str("judged otherwise")?),
     }
@@ -103,7 +116,7 @@ fn answer_ended(
     case: Case<'_>,
     course: &mut Course,
     out: &mut String,
-) -> Result<()> {
+) -> Result<(), CaseError> {
     let (cluster, ending) = case.two_fields()?;
     let job = first_job(case, cluster)?;
     let end = end_of(case, ending)?;
@@ -116,15 +129,20 @@ fn answer_close(
     case: Case<'_>,
     course: &mut Course,
     out: &mut String,
-) -> Result<()> {
+) -> Result<(), CaseError> {
     let reading = case.natural(case.one_field()?)?;
-    match no_match(alloc, course.pool(), reading)? {
+    match or_out_of_memory(no_match(alloc, course.pool(), reading))? {
         Some(none) => act(alloc, course, Event::Close { reading, none }, out),
         None => Ok(out.push_str("judged otherwise")?),
     }
 }
 
-fn act(alloc: Global, course: &mut Course, event: Event, out: &mut String) -> Result<()> {
+fn act(
+    alloc: Global,
+    course: &mut Course,
+    event: Event,
+    out: &mut String,
+) -> Result<(), CaseError> {
     match course.act(alloc, event) {
         Ok(Answer::Done) => Ok(out.push_str("done")?),
         Ok(Answer::Launch { what }) => Ok(write!(out, "launch\t{}", what.program)?),
@@ -165,8 +183,14 @@ fn job_text(id: JobId, out: &mut String) -> Result<(), AllocError> {
     write!(out, "{cluster}.{proc}")
 }
 
-fn answer_run(alloc: Global, case: Case<'_>, course: &mut Course, out: &mut String) -> Result<()> {
-    let jobs = job_ads(alloc, number(case, case.one_field()?)?, true)?;
+fn answer_run(
+    alloc: Global,
+    case: Case<'_>,
+    course: &mut Course,
+    out: &mut String,
+) -> Result<(), CaseError> {
+    let count = number(case, case.one_field()?)?;
+    let jobs = or_out_of_memory(job_ads(alloc, count, true))?;
     match run_jobs(alloc, course, jobs) {
         Ok(ran) => Ok(write!(out, "ran\t{ran}")?),
         Err(error) => Ok(refuse(error, out)?),
@@ -174,9 +198,14 @@ fn answer_run(alloc: Global, case: Case<'_>, course: &mut Course, out: &mut Stri
 }
 
 // What is seen of the pool, and the number of the history's steps.
-fn answer_see(alloc: Global, case: Case<'_>, course: &Course, out: &mut String) -> Result<()> {
+fn answer_see(
+    alloc: Global,
+    case: Case<'_>,
+    course: &Course,
+    out: &mut String,
+) -> Result<(), CaseError> {
     if !case.all_fields(alloc)?.is_empty() {
-        return Err(CaseError::Fields { line: case.line }.into());
+        return Err(CaseError::Fields { line: case.line });
     }
     let pool = course.pool();
     let (jobs, latest) = (pool.job_count(), pool.latest());
