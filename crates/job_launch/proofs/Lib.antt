@@ -1,0 +1,2 @@
+mod LaunchLemmas
+mod QuoteLemmas
