@@ -1,3 +1,4 @@
+use crate::launches::answer_launch;
 use crate::macros::answer_expand;
 use crate::texts::{answer_lines, answer_words};
 use cases::{Case, CaseError, read_cases};
@@ -17,6 +18,7 @@ fn answer(alloc: Global, case: Case<'_>, out: &mut String) -> Result<(), CaseErr
         "lines" => answer_lines(alloc, case, out),
         "expand" => answer_expand(alloc, case, out),
         "words" => answer_words(alloc, case, out),
+        "launch" => answer_launch(alloc, case, out),
         _ => Err(CaseError::Kind { line: case.line }),
     }
 }

@@ -1,11 +1,12 @@
 //! Answers cases of submit files, configurations and what they are made of: a case a line on
 //! standard input, an answer a line on standard output.
 //!
-//! `lines TEXT`, `expand TEXT NAME=VALUE ..`, `words TEXT plain`, `words TEXT quoted`: README.md
-//! says what each answers.
+//! `lines TEXT`, `expand TEXT NAME=VALUE ..`, `words TEXT plain`, `words TEXT quoted`,
+//! `launch AD`: README.md says what each answers.
 #![tactic(auto)]
 
 mod answers;
+mod launches;
 mod macros;
 mod texts;
 
