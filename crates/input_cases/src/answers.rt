@@ -1,5 +1,6 @@
 use crate::launches::answer_launch;
 use crate::macros::answer_expand;
+use crate::scripts::answer_script;
 use crate::texts::{answer_lines, answer_words};
 use cases::{Case, CaseError, read_cases};
 use std::alloc::Global;
@@ -19,6 +20,7 @@ fn answer(alloc: Global, case: Case<'_>, out: &mut String) -> Result<(), CaseErr
         "expand" => answer_expand(alloc, case, out),
         "words" => answer_words(alloc, case, out),
         "launch" => answer_launch(alloc, case, out),
+        "script" => answer_script(alloc, case, out),
         _ => Err(CaseError::Kind { line: case.line }),
     }
 }

@@ -2,12 +2,13 @@
 //! standard input, an answer a line on standard output.
 //!
 //! `lines TEXT`, `expand TEXT NAME=VALUE ..`, `words TEXT plain`, `words TEXT quoted`,
-//! `launch AD`: README.md says what each answers.
+//! `launch AD`, `script TEXT MACHINE ..`: README.md says what each answers.
 #![tactic(auto)]
 
 mod answers;
 mod launches;
 mod macros;
+mod scripts;
 mod texts;
 
 use crate::answers::answer_all;

@@ -1,0 +1,4 @@
+pub mod LawLemmas
+pub mod LineLemmas
+pub mod OneEntry
+pub mod Values
