@@ -1,7 +1,6 @@
 use ad_value::{Text, TextList};
 use cases::{Case, CaseError, escape};
-use claim_id::Verb;
-use claim_id::Wish;
+use claim_id::{Verb, Wish};
 use script_plan::{Crash, NumberList, Script, ScriptError, read};
 use std::alloc::{AllocError, Global};
 use std::fmt::Write;
@@ -42,11 +41,7 @@ fn write_reading(
     }
 }
 
-fn write_script(
-    script: &Script,
-    machines: &TextList,
-    out: &mut String,
-) -> Result<(), AllocError> {
+fn write_script(script: &Script, machines: &TextList, out: &mut String) -> Result<(), AllocError> {
     out.push_str("ok")?;
     for wish in script.wishes.as_slice() {
         write_wish(*wish, out)?;

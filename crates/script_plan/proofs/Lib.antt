@@ -1,4 +1,5 @@
 pub mod LawLemmas
 pub mod LineLemmas
+pub mod LoadLemmas
 pub mod OneEntry
 pub mod Values

@@ -5,6 +5,7 @@
 mod entry;
 mod error;
 pub mod laws;
+mod load_ads;
 mod number;
 mod orders;
 mod script;
@@ -12,6 +13,7 @@ mod storms;
 
 pub use entry::{Crash, CrashList, Entry, Load, NumberList, WishList};
 pub use error::ScriptError;
+pub use load_ads::load;
 pub use orders::LAST_READING;
 pub use script::{Script, read};
 pub use storms::{MAX_LOAD_JOBS, MAX_LOAD_NUMBER};

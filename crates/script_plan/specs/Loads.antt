@@ -1,0 +1,86 @@
+-- The ads of a load's jobs (HTCondor manual, "Job ClassAd Attributes").
+use Rattle.std.specs.Prelude.{ℕ, zero, suc, ◌+◌, ◌*◌, ◌/◌, ◌%◌, pos, List, [], ◌∷◌, ◌++◌, codes}
+use Rattle.std.specs.Borrow.{Bor}
+use Rattle.ad_value.specs.Content.{integer, text}
+use Rattle.ad_names.specs.declared.job.TheConstants.{ARGS, CLUSTER_ID, CMD, ERR, IN, IWD, JOB_PRIO, JOB_STATUS, JOB_UNIVERSE, OUT, OWNER, PROC_ID, Q_DATE, REQUEST_CPUS, REQUEST_DISK, REQUEST_MEMORY}
+use Rattle.ad_names.specs.declared.matching.TheConstants.{RANK, REQUIREMENTS}
+use Rattle.ad_names.specs.declared.slot.TheConstants.{CPUS, DISK, MEMORY}
+use Rattle.ad_tree.specs.declared.operator.BinOp.TheVariants.{And, GreaterEqual}
+use Rattle.ad_tree.specs.declared.operator.Scope.TheVariants.{Bare, Target}
+use Rattle.ad_tree.specs.Ad.{Attributes, with_attribute}
+use Rattle.ad_tree.specs.Tree.{Tree, literal, reference, chain, no_rests, and_rest}
+use Rattle.claim_id.specs.declared.numbers.JobId.{JobId}
+use Rattle.script_plan.specs.declared.load_ads.Given.{Given}
+use Rattle.script_plan.specs.declared.load_ads.Given.TheVariants.{Integer, Text, Enough}
+
+abbrev pub integer_literal : ℕ → Tree
+integer_literal n = literal (integer (pos n))
+
+abbrev pub text_literal : List ℕ → Tree
+text_literal bytes = literal (text bytes)
+
+-- TARGET.NAME >= REQUEST
+abbrev pub at_least : List ℕ → List ℕ → Tree
+at_least name request =
+    chain (reference Target name) (and_rest GreaterEqual (reference Bare request) no_rests)
+
+-- the other ad has as many processors, MiB of memory and KiB of disk as this one asks for
+abbrev pub enough : Tree
+enough = chain (at_least CPUS.now REQUEST_CPUS.now)
+    (and_rest And (at_least MEMORY.now REQUEST_MEMORY.now)
+    (and_rest And (at_least DISK.now REQUEST_DISK.now) no_rests))
+
+-- the ad of a job that asks for so many MiB
+abbrev pub load_ad : JobId → List ℕ → ℕ → ℕ → Attributes
+load_ad job owner now memory =
+    (CLUSTER_ID.now, integer_literal job.cluster)
+    ∷ (PROC_ID.now, integer_literal job.proc)
+    ∷ (OWNER.now, text_literal owner)
+    ∷ (Q_DATE.now, integer_literal now)
+    ∷ (JOB_UNIVERSE.now, integer_literal 5)
+    ∷ (JOB_STATUS.now, integer_literal 1)
+    ∷ (CMD.now, text_literal (codes "/bin/true"))
+    ∷ (ARGS.now, text_literal [])
+    ∷ (IWD.now, text_literal [])
+    ∷ (IN.now, text_literal [])
+    ∷ (OUT.now, text_literal [])
+    ∷ (ERR.now, text_literal [])
+    ∷ (JOB_PRIO.now, integer_literal 0)
+    ∷ (REQUIREMENTS.now, enough)
+    ∷ (RANK.now, integer_literal 0)
+    ∷ (REQUEST_CPUS.now, integer_literal 1)
+    ∷ (REQUEST_MEMORY.now, integer_literal memory)
+    ∷ (REQUEST_DISK.now, integer_literal 1024)
+    ∷ []
+
+abbrev pub next_number : ℕ → ℕ
+next_number x = (x * 1103515245 + 12345) % 2147483648
+
+-- a load's number after so many jobs
+unfoldable pub number_after : ℕ → ℕ → ℕ
+number_after number zero = number
+number_after number (suc jobs) = next_number (number_after number jobs)
+
+-- how many MiB a job asks for
+abbrev pub memory_of : ℕ → ℕ
+memory_of x = 1 + x / 65536 % 256
+
+-- the ads of the first jobs of a load
+unfoldable pub load_ads : ℕ → ℕ → List ℕ → ℕ → ℕ → List Attributes
+load_ads number cluster owner now zero = []
+load_ads number cluster owner now (suc jobs) =
+    load_ads number cluster owner now jobs
+    ++ load_ad (record { cluster = cluster; proc = jobs }) owner now
+    (memory_of (number_after number (suc jobs)))
+    ∷ []
+
+-- the expression that a row of a table gives
+abbrev pub given_tree : Given → Tree
+given_tree (Integer n) = integer_literal n
+given_tree (Text bytes) = text_literal bytes.now
+given_tree Enough = enough
+
+-- the ad with the rows of a table set, one after the other
+abbrev pub with_rows : List (Bor (List ℕ) × Given) → Attributes → Attributes
+with_rows [] ad = ad
+with_rows (r ∷ rs) ad = with_rows rs (with_attribute r.0.now (given_tree r.1) ad)
