@@ -1,4 +1,5 @@
 use crate::launches::answer_launch;
+use crate::loads::answer_load;
 use crate::macros::answer_expand;
 use crate::scripts::answer_script;
 use crate::texts::{answer_lines, answer_words};
@@ -21,6 +22,7 @@ fn answer(alloc: Global, case: Case<'_>, out: &mut String) -> Result<(), CaseErr
         "words" => answer_words(alloc, case, out),
         "launch" => answer_launch(alloc, case, out),
         "script" => answer_script(alloc, case, out),
+        "load" => answer_load(alloc, case, out),
         _ => Err(CaseError::Kind { line: case.line }),
     }
 }

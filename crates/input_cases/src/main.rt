@@ -2,11 +2,12 @@
 //! standard input, an answer a line on standard output.
 //!
 //! `lines TEXT`, `expand TEXT NAME=VALUE ..`, `words TEXT plain`, `words TEXT quoted`,
-//! `launch AD`, `script TEXT MACHINE ..`: README.md says what each answers.
+//! `launch AD`, `script TEXT MACHINE ..`, `load NUMBER JOBS`: README.md says what each answers.
 #![tactic(auto)]
 
 mod answers;
 mod launches;
+mod loads;
 mod macros;
 mod scripts;
 mod texts;

@@ -1,3 +1,4 @@
+pub mod ByTime
 pub mod LawLemmas
 pub mod LineLemmas
 pub mod LoadLemmas

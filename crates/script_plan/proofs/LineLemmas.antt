@@ -1,5 +1,5 @@
 -- One line more, and the first that says nothing.
-use Rattle.std.proofs.Common.{◌≡◌, ℕ, ◌<◌, ◌≤◌, ◌+◌, true, false, List, [], ◌∷◌, ◌++◌, length, take, drop, get_or, filter_map, refl, sym, ◌∙◌, ap, subst, arith, append_assoc, length-append, add-one, drop-cons, suc}
+use Rattle.std.proofs.Common.{◌≡◌, ℕ, ◌<◌, ◌≤◌, ◌+◌, true, false, List, [], ◌∷◌, ◌++◌, length, take, drop, get_or, filter_map, refl, sym, ◌∙◌, ap, subst, arith, length-append, add-one, drop-cons, suc}
 use Rattle.std.specs.List.{AllZip}
 use Rattle.std.proofs.lemmas.List.{take_more, take-append-drop}
 use Rattle.std.proofs.lemmas.List.Elements.{filter_map-append}
@@ -8,8 +8,8 @@ use Rattle.script_plan.specs.declared.entry.Entry.{Entry}
 use Rattle.script_plan.specs.declared.entry.Entry.TheVariants as entry
 use Rattle.script_plan.specs.declared.error.ScriptError.{ScriptError}
 use Rattle.script_plan.specs.declared.error.ScriptError.TheVariants as error
-use Rattle.script_plan.specs.Entries.{load_in, is_load}
-use Rattle.script_plan.specs.Scripts.{LineSays, AreSaid, SaidNext, IsFirstBad, IsRefusedIn, IsRefusedNext, is_second_load, has_load}
+use Rattle.script_plan.specs.Entries.{load_in}
+use Rattle.script_plan.specs.Scripts.{LineSays, AreSaid, SaidNext, IsRefusedIn, IsRefusedNext, is_second_load, has_load}
 use Rattle.script_plan.proofs.OneEntry.{one_entry}
 
 all_zip_push : {A B : Type 0} (R : A → B → Type 0) (xs : List A) (ys : List B) (x : A) (y : B) → AllZip R xs ys → R x y → AllZip R (xs ++ x ∷ []) (ys ++ y ∷ [])
@@ -35,7 +35,7 @@ all_zip_split R (a ∷ xs) x (z ∷ zs) each =
     let s = all_zip_split R xs x zs each.1 in
     record { before = z ∷ s.before; last = s.last; whole = ap (λ l. z ∷ l) s.whole; each = (each.0, s.each); one = s.one }
 
-all_zip_one : {A B : Type 0} (R : A → B → Type 0) → ((a : A) (b c : B) → R a b → R a c → b ≡ c) → (xs : List A) (ys zs : List B) → AllZip R xs ys → AllZip R xs zs → ys ≡ zs
+pub all_zip_one : {A B : Type 0} (R : A → B → Type 0) → ((a : A) (b c : B) → R a b → R a c → b ≡ c) → (xs : List A) (ys zs : List B) → AllZip R xs ys → AllZip R xs zs → ys ≡ zs
 all_zip_one R one [] [] [] each other = refl
 all_zip_one R one [] [] (z ∷ zs) each other = absurd other
 all_zip_one R one [] (y ∷ ys) zs each other = absurd each

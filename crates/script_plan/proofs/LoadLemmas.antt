@@ -1,6 +1,9 @@
 -- One job more of a load.
-use Rattle.std.proofs.Common.{◌≡◌, ℕ, ◌+◌, List, [], ◌∷◌, ◌++◌, refl, add-one}
-use Rattle.script_plan.specs.Loads.{load_ads, load_ad, number_after, next_number, memory_of}
+use Rattle.std.proofs.Common.{◌≡◌, ℕ, ◌+◌, ◌<◌, zero, suc, List, [], ◌∷◌, ◌++◌, length, Some, refl, sym, ap, ◌∙◌, inl, inr, arith, add-one, length-append}
+use Rattle.std.specs.List.{slice_get}
+use Rattle.std.proofs.lemmas.Bool.{cases_lt}
+use Rattle.claim_id.specs.declared.numbers.JobId.{JobId}
+use Rattle.script_plan.specs.Loads.{load_ads, load_ad, job_of_load, number_after, next_number, IsSubmitted}
 
 pub load_none : (number cluster : ℕ) (owner : List ℕ) (now : ℕ) → [] ≡ load_ads number cluster owner now 0
 unfolding load_ads
@@ -10,10 +13,53 @@ pub number_none : (number : ℕ) → number ≡ number_after number 0
 unfolding number_after
 number_none number = refl
 
-pub load_more : (number cluster : ℕ) (owner : List ℕ) (now jobs : ℕ) → load_ads number cluster owner now (jobs + 1) ≡ load_ads number cluster owner now jobs ++ load_ad (record { cluster = cluster; proc = jobs }) owner now (memory_of (number_after number (jobs + 1))) ∷ []
+pub load_more : (number cluster : ℕ) (owner : List ℕ) (now jobs : ℕ) → load_ads number cluster owner now (jobs + 1) ≡ load_ads number cluster owner now jobs ++ job_of_load number cluster owner now jobs ∷ []
 unfolding load_ads
-load_more number cluster owner now jobs = rw add-one refl
+load_more number cluster owner now jobs = ap (load_ads number cluster owner now) (add-one jobs)
 
 pub number_more : (number jobs : ℕ) → number_after number (jobs + 1) ≡ next_number (number_after number jobs)
 unfolding number_after
 number_more number jobs = rw add-one refl
+
+pub count : (number cluster now jobs : ℕ) (owner : List ℕ) → length (load_ads number cluster owner now jobs) ≡ jobs
+unfolding load_ads
+count number cluster now zero owner = refl
+count number cluster now (suc jobs) owner =
+    length-append (load_ads number cluster owner now jobs) (job_of_load number cluster owner now jobs ∷ [])
+    ∙ ap (λ n. n + 1) (count number cluster now jobs owner)
+    ∙ add-one jobs
+
+get_left : {X : Type 0} (xs ys : List X) (k : ℕ) → k < length xs → slice_get (xs ++ ys) k ≡ slice_get xs k
+get_left [] ys k inside = absurd (omega arith)
+get_left (x ∷ xs) ys zero inside = refl
+get_left (x ∷ xs) ys (suc k) inside = get_left xs ys k (omega arith)
+
+get_last : {X : Type 0} (xs : List X) (y : X) → slice_get (xs ++ y ∷ []) (length xs) ≡ Some y
+get_last [] y = refl
+get_last (x ∷ xs) y = get_last xs y
+
+pub each : (number cluster now jobs proc : ℕ) (owner : List ℕ) → proc < jobs → slice_get (load_ads number cluster owner now jobs) proc ≡ Some (job_of_load number cluster owner now proc)
+unfolding load_ads
+each number cluster now zero proc owner inside = absurd (omega arith)
+each number cluster now (suc jobs) proc owner inside =
+    let before = load_ads number cluster owner now jobs in
+    let many = count number cluster now jobs owner in
+    elim (cases_lt proc jobs) [
+      | inl less ↦ get_left before (job_of_load number cluster owner now jobs ∷ []) proc (omega arith) ∙ each number cluster now jobs proc owner less
+      | inr least ↦
+          let last : proc ≡ jobs = omega arith in
+          ap (slice_get (before ++ job_of_load number cluster owner now jobs ∷ [])) (last ∙ sym many)
+          ∙ get_last before (job_of_load number cluster owner now jobs)
+          ∙ ap (λ p. Some (job_of_load number cluster owner now p)) (sym last)
+    ]
+
+pub submitted : (job : JobId) (owner : List ℕ) (now memory : ℕ) → IsSubmitted job (load_ad job owner now memory)
+submitted job owner now memory = record {
+  cluster_id = refl;
+  proc_id = refl;
+  job_status = refl;
+  no_claim = refl;
+  no_number = refl;
+  no_lease = refl;
+  small = omega arith;
+}

@@ -1,10 +1,9 @@
 -- A line says one thing.
-use Rattle.std.proofs.Common.{◌≡◌, ℕ, List, [], ◌∷◌, Option, Some, None, true, false, refl, sym, ◌∙◌, ap, subst}
+use Rattle.std.proofs.Common.{◌≡◌, ℕ, List, [], ◌∷◌, Option, Some, None, false, refl, sym, ◌∙◌, ap, subst}
 use Rattle.std.proofs.lemmas.Bool.{true≢false}
 use Rattle.std.proofs.lemmas.Slice.Eq.{bytes_eq-Decides}
 use Rattle.std.specs.Str.{bytes_eq}
 use Rattle.std.proofs.lemmas.Fmt.{decimal_injective}
-use Rattle.claim_id.specs.declared.numbers.JobId.{JobId}
 use Rattle.claim_id.specs.declared.order.Verb.{Verb}
 use Rattle.claim_id.specs.declared.order.Verb.TheVariants as verb
 use Rattle.claim_id.specs.declared.order.Wish.{Wish}
@@ -14,7 +13,7 @@ use Rattle.script_plan.specs.declared.entry.Crash.{Crash}
 use Rattle.script_plan.specs.declared.entry.Entry.{Entry}
 use Rattle.script_plan.specs.declared.entry.Entry.TheVariants as entry
 use Rattle.script_plan.specs.declared.entry.Load.{Load}
-use Rattle.script_plan.specs.Entries.{IsNumber, IsTime, IsVerb, IsJobWord, IsOrder, IsMail, IsDaemon, IsPoint, IsCrash, IsLoadNumber, IsLoadJobs, IsLoad, SaysAfter, Says}
+use Rattle.script_plan.specs.Entries.{IsNumber, IsVerb, IsOrder, IsMail, IsDaemon, IsCrash, IsLoad, SaysAfter, Says}
 use Rattle.script_plan.specs.Scripts.{LineSays}
 use Rattle.script_plan.proofs.Values.{same_value}
 

@@ -1,5 +1,5 @@
 -- The value that an Option has.
-use Rattle.std.proofs.Common.{◌≡◌, Option, Some, None, sym, ◌∙◌, ap}
+use Rattle.std.proofs.Common.{◌≡◌, Option, Some, sym, ◌∙◌, ap}
 use Rattle.std.specs.Prelude.{unwrap_or}
 
 pub same_value : {A : Type 0} (x y : A) {o : Option A} → o ≡ Some x → o ≡ Some y → x ≡ y

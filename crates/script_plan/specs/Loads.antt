@@ -1,13 +1,14 @@
 -- The ads of a load's jobs (HTCondor manual, "Job ClassAd Attributes").
-use Rattle.std.specs.Prelude.{ℕ, zero, suc, ◌+◌, ◌*◌, ◌/◌, ◌%◌, pos, List, [], ◌∷◌, ◌++◌, codes}
+use Rattle.std.specs.Prelude.{◌≡◌, ◌≤◌, ℕ, zero, suc, ◌+◌, ◌*◌, ◌/◌, ◌%◌, pos, List, [], ◌∷◌, ◌++◌, length, Some, None, codes}
 use Rattle.std.specs.Borrow.{Bor}
 use Rattle.ad_value.specs.Content.{integer, text}
 use Rattle.ad_names.specs.declared.job.TheConstants.{ARGS, CLUSTER_ID, CMD, ERR, IN, IWD, JOB_PRIO, JOB_STATUS, JOB_UNIVERSE, OUT, OWNER, PROC_ID, Q_DATE, REQUEST_CPUS, REQUEST_DISK, REQUEST_MEMORY}
 use Rattle.ad_names.specs.declared.matching.TheConstants.{RANK, REQUIREMENTS}
+use Rattle.ad_names.specs.declared.pool.TheConstants.{RUN_CLAIM, RUN_NUMBER, LEASE_UNTIL}
 use Rattle.ad_names.specs.declared.slot.TheConstants.{CPUS, DISK, MEMORY}
 use Rattle.ad_tree.specs.declared.operator.BinOp.TheVariants.{And, GreaterEqual}
 use Rattle.ad_tree.specs.declared.operator.Scope.TheVariants.{Bare, Target}
-use Rattle.ad_tree.specs.Ad.{Attributes, with_attribute}
+use Rattle.ad_tree.specs.Ad.{Attributes, lookup, with_attribute}
 use Rattle.ad_tree.specs.Tree.{Tree, literal, reference, chain, no_rests, and_rest}
 use Rattle.claim_id.specs.declared.numbers.JobId.{JobId}
 use Rattle.script_plan.specs.declared.load_ads.Given.{Given}
@@ -65,14 +66,17 @@ number_after number (suc jobs) = next_number (number_after number jobs)
 abbrev pub memory_of : ℕ → ℕ
 memory_of x = 1 + x / 65536 % 256
 
+-- the ad of a load's job of that number in its cluster, from 0
+abbrev pub job_of_load : ℕ → ℕ → List ℕ → ℕ → ℕ → Attributes
+job_of_load number cluster owner now proc =
+    load_ad (record { cluster = cluster; proc = proc }) owner now
+    (memory_of (number_after number (proc + 1)))
+
 -- the ads of the first jobs of a load
 unfoldable pub load_ads : ℕ → ℕ → List ℕ → ℕ → ℕ → List Attributes
 load_ads number cluster owner now zero = []
 load_ads number cluster owner now (suc jobs) =
-    load_ads number cluster owner now jobs
-    ++ load_ad (record { cluster = cluster; proc = jobs }) owner now
-    (memory_of (number_after number (suc jobs)))
-    ∷ []
+    load_ads number cluster owner now jobs ++ job_of_load number cluster owner now jobs ∷ []
 
 -- the expression that a row of a table gives
 abbrev pub given_tree : Given → Tree
@@ -84,3 +88,14 @@ given_tree Enough = enough
 abbrev pub with_rows : List (Bor (List ℕ) × Given) → Attributes → Attributes
 with_rows [] ad = ad
 with_rows (r ∷ rs) ad = with_rows rs (with_attribute r.0.now (given_tree r.1) ad)
+
+-- what is asked of a job's ad that is submitted: its numbers, that it is idle and has had no run,
+-- and room for what the pool sets
+pub record IsSubmitted (job : JobId) (ad : Attributes) : Type 0 where
+  pub cluster_id : lookup CLUSTER_ID.now ad ≡ Some (integer_literal job.cluster)
+  pub proc_id : lookup PROC_ID.now ad ≡ Some (integer_literal job.proc)
+  pub job_status : lookup JOB_STATUS.now ad ≡ Some (integer_literal 1)
+  pub no_claim : lookup RUN_CLAIM.now ad ≡ None
+  pub no_number : lookup RUN_NUMBER.now ad ≡ None
+  pub no_lease : lookup LEASE_UNTIL.now ad ≡ None
+  pub small : length ad ≤ 248

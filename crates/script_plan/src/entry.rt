@@ -1,6 +1,6 @@
 // What a line of a script says.
 
-ghost use Rattle.std.specs.Prelude.{◌≡◌, ◌↔◌, ℕ, Option, Some, None};
+ghost use Rattle.std.specs.Prelude.{◌≡◌, ◌↔◌};
 ghost use Rattle.script_plan.specs.declared.entry.Entry.{Entry};
 ghost use Rattle.script_plan.specs.Entries.{Says, SaysAfter, wish_in, lost_in, repeated_in, late_in, crash_in, load_in, is_load};
 

@@ -1,10 +1,12 @@
-//! What holds of all scripts.
+//! What holds of all scripts and loads.
 
-ghost use Rattle.std.specs.Prelude.{◌≡◌, ℕ, List};
+ghost use Rattle.std.specs.Prelude.{◌≡◌, ◌<◌, ℕ, List, length, Some, slice_get};
+ghost use Rattle.claim_id.specs.declared.numbers.JobId.{JobId};
 ghost use Rattle.line_text.specs.declared.logical.Line.{Line};
 ghost use Rattle.line_text.specs.Lines.{logical_lines};
 ghost use Rattle.script_plan.specs.declared.entry.Entry.{Entry};
 ghost use Rattle.script_plan.specs.declared.script.Script.{Script};
+ghost use Rattle.script_plan.specs.Loads.{load_ad, load_ads, job_of_load, IsSubmitted};
 ghost use Rattle.script_plan.specs.Scripts.{LineSays, IsScript, IsFirstBad};
 
 /// A line says one thing.
@@ -13,8 +15,29 @@ pub fn line_says_one_thing()
         → LineSays machines line one → LineSays machines line other → one ≡ other }
 {}
 
+/// A text is one script.
+pub fn text_is_one_script()
+    ensures { (machines : List (List ℕ)) (text : List ℕ) (one other : Script)
+        → IsScript machines text one → IsScript machines text other → one ≡ other }
+{}
+
 /// A text that is a script is not refused as none.
 pub fn scripts_are_not_refused()
     ensures { (machines : List (List ℕ)) (text : List ℕ) (script : Script) (line : ℕ)
         → IsScript machines text script → ¬ IsFirstBad machines (logical_lines text) line }
+{}
+
+/// A load has as many jobs as it says, numbered from 0.
+pub fn load_has_its_jobs()
+    ensures count { (number cluster now jobs : ℕ) (owner : List ℕ)
+        → length (load_ads number cluster owner now jobs) ≡ jobs }
+    ensures each { (number cluster now jobs proc : ℕ) (owner : List ℕ) → proc < jobs
+        → slice_get (load_ads number cluster owner now jobs) proc
+        ≡ Some (job_of_load number cluster owner now proc) }
+{}
+
+/// The ad of a load's job meets what is asked of one that is submitted.
+pub fn jobs_of_a_load_are_submitted()
+    ensures { (job : JobId) (owner : List ℕ) (now memory : ℕ)
+        → IsSubmitted job (load_ad job owner now memory) }
 {}

@@ -1,6 +1,6 @@
 // Numbers of a script.
 
-ghost use Rattle.std.specs.Prelude.{◌≡◌, ◌↔◌, ◌<◌, ◌^◌, ℕ, IfSome, IsTrue, decimal};
+ghost use Rattle.std.specs.Prelude.{◌≡◌, ◌↔◌, ℕ, IsTrue, decimal};
 ghost use Rattle.script_plan.specs.Entries.{IsNumber};
 
 use itoa::Buffer;

@@ -4,7 +4,6 @@ ghost use Rattle.std.specs.Prelude.{◌≡◌, ◌↔◌, ℕ};
 ghost use Rattle.claim_id.specs.declared.numbers.JobId.{JobId};
 ghost use Rattle.claim_id.specs.declared.order.Verb.{Verb};
 ghost use Rattle.claim_id.specs.declared.order.Wish.{Wish};
-ghost use Rattle.claim_id.specs.Texts.{job_text, IsJob};
 ghost use Rattle.script_plan.specs.Entries.{IsTime, IsVerb, IsJobWord, IsOrder};
 
 use crate::number::number_of;

@@ -1,6 +1,6 @@
 // Scripts.
 
-ghost use Rattle.std.specs.Prelude.{◌≡◌, ◌↔◌, [], Some, IfOk, IfErr, OnOk, filter_map, slice_get};
+ghost use Rattle.std.specs.Prelude.{◌≡◌, ◌↔◌, Some, IfOk, IfErr, OnOk, filter_map, slice_get};
 ghost use Rattle.script_plan.specs.declared.entry.Entry.{Entry};
 ghost use Rattle.script_plan.specs.Entries.{wish_in, lost_in, repeated_in, late_in, crash_in, load_in};
 ghost use Rattle.script_plan.specs.Scripts.{IsScript, IsRefused, AreSaid, LineSays, SaidNext, IsRefusedNext, IsRefusedIn, IsByTime, Holds, is_second_load, has_load};

@@ -1,6 +1,6 @@
 // Mails that go astray, crashes and loads: the lines `lose`, `repeat`, `late`, `crash` and `load`.
 
-ghost use Rattle.std.specs.Prelude.{◌≡◌, ◌↔◌, ◌≤◌, [], ◌∷◌, ℕ, Option};
+ghost use Rattle.std.specs.Prelude.{◌≡◌, ◌↔◌, ℕ, Option};
 ghost use Rattle.std.specs.List.{position};
 ghost use Rattle.std.specs.Str.{bytes_eq};
 ghost use Rattle.script_plan.specs.declared.entry.Crash.{Crash};

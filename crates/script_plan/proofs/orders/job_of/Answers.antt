@@ -1,4 +1,4 @@
-use Rattle.std.proofs.Common.{◌≡◌, Option, Some, Ok, ap, ◌∙◌}
+use Rattle.std.proofs.Common.{Option, Ok, ap, ◌∙◌}
 use Rattle.std.specs.Prelude.{unwrap_or}
 use Rattle.claim_id.specs.declared.numbers.JobId.{JobId}
 use Rattle.script_plan.proofs.orders.job_of.Goals as goal

@@ -1,4 +1,4 @@
-use Rattle.std.proofs.Common.{◌≡◌, Some, refl, ap, sym, ◌∙◌}
+use Rattle.std.proofs.Common.{refl, ap, sym, ◌∙◌}
 use Rattle.script_plan.specs.Scripts.{is_second_load}
 use Rattle.script_plan.proofs.Values.{same_value}
 use Rattle.script_plan.proofs.script.next_entry.Goals as goal
