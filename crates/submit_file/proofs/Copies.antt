@@ -1,0 +1,54 @@
+-- Jobs that are made one after the other.
+use Rattle.std.proofs.Common.{◌≡◌, ℕ, zero, suc, ◌+◌, ◌-◌, ◌<◌, List, [], ◌∷◌, ◌++◌, length, get_or, take, drop, flat_map, append_assoc, replicate, Option, Some, Result, Ok, Err, refl, ap, sym, ◌∙◌, subst, arith}
+use Rattle.ad_tree.specs.Ad.{Attributes}
+use Rattle.submit_file.specs.declared.error.SubmitError.{SubmitError}
+use Rattle.submit_file.specs.declared.error.SubmitError.TheVariants as error
+use Rattle.submit_file.specs.declared.file.LinesSoFar.{LinesSoFar}
+use Rattle.submit_file.specs.Errors.{UnlessMemory}
+use Rattle.submit_file.specs.SubmittedJobs.{Common, with_numbers, with_item, IsJob, MakesJobs, stops, and_job, AddsJobs, over_items}
+
+pub unless_map : {X Y : Type 0} (P : Result X SubmitError → Type 0) (Q : Result Y SubmitError → Type 0) (e : SubmitError) → (P (Err e) → Q (Err e)) → UnlessMemory P (Err e) → UnlessMemory Q (Err e)
+unless_map P Q error.Memory f h = tt
+unless_map P Q (error.BadLine n) f h = f h
+unless_map P Q (error.Unsupported n) f h = f h
+unless_map P Q (error.Universe n) f h = f h
+unless_map P Q (error.NoExecutable n) f h = f h
+unless_map P Q (error.BadExpr n) f h = f h
+unless_map P Q (error.Count n) f h = f h
+unless_map P Q (error.Full n) f h = f h
+unless_map P Q (error.Macro n g) f h = f h
+unless_map P Q error.NoQueue f h = f h
+
+pub add_ok : (h : Common) (f : LinesSoFar) (n : ℕ) (i : Option (List ℕ × List ℕ)) (old new : List Attributes) (ad : Attributes) → IsJob h f (with_numbers (length old) (with_item i f.table)) (length old) n (Ok ad) → new ≡ old ++ ad ∷ [] → AddsJobs h f n (i ∷ []) old new (Ok tt)
+add_ok h f n i old new ad job e = λ rest r more. and_job job (subst (λ ads. MakesJobs h f n rest ads r) e more)
+
+pub add_err : (h : Common) (f : LinesSoFar) (n : ℕ) (i : Option (List ℕ × List ℕ)) (old new : List Attributes) (e : SubmitError) → UnlessMemory (IsJob h f (with_numbers (length old) (with_item i f.table)) (length old) n) (Err e) → UnlessMemory (AddsJobs h f n (i ∷ []) old new) (Err e)
+add_err h f n i old new e = unless_map (IsJob h f (with_numbers (length old) (with_item i f.table)) (length old) n) (AddsJobs h f n (i ∷ []) old new) e (λ job rest. stops job)
+
+rep : {X : Type 0} (x : X) (rest : List X) (k m c : ℕ) → c ≡ k + (1 + m) → replicate k x ++ (x ∷ (replicate m x ++ rest)) ≡ replicate c x ++ rest
+rep x rest zero m c e =
+    let same : suc m ≡ c = omega (arith, e) in
+    subst (λ c. x ∷ (replicate m x ++ rest) ≡ replicate c x ++ rest) same refl
+rep x rest (suc k) m zero e = absurd (omega (arith, e))
+rep x rest (suc k) m (suc c) e = ap (λ l. x ∷ l) (rep x rest k m c (omega (arith, e)))
+
+pub copies_err : (h : Common) (f : LinesSoFar) (n : ℕ) (i : Option (List ℕ × List ℕ)) (copies k : ℕ) (old mid new : List Attributes) (e : SubmitError) → k < copies → AddsJobs h f n (replicate k i) old mid (Ok tt) → UnlessMemory (AddsJobs h f n (i ∷ []) mid new) (Err e) → UnlessMemory (AddsJobs h f n (replicate copies i) old new) (Err e)
+copies_err h f n i copies k old mid new e l made =
+    unless_map (AddsJobs h f n (i ∷ []) mid new) (AddsJobs h f n (replicate copies i) old new) e
+    (λ g rest. subst (λ is. MakesJobs h f n is old (Err e)) (rep i rest k (copies - (k + 1)) copies (omega (arith, l)))
+      (made (i ∷ (replicate (copies - (k + 1)) i ++ rest)) (Err e) (g (replicate (copies - (k + 1)) i ++ rest))))
+
+pieces : {X Y : Type 0} (g : X → List Y) (rest : List Y) (is : List X) (k : ℕ) (i : X) → k < length is → i ≡ get_or is k i → flat_map g (take k is) ++ (g i ++ (flat_map g (drop (suc k) is) ++ rest)) ≡ flat_map g is ++ rest
+pieces g rest [] k i l e = absurd (omega (arith, l))
+pieces g rest (x ∷ xs) zero i l e = ap (λ x. g x ++ (flat_map g xs ++ rest)) e ∙ sym (append_assoc (g x) (flat_map g xs) rest)
+pieces g rest (x ∷ xs) (suc k) i l e =
+    append_assoc (g x) (flat_map g (take k xs)) _ ∙ ap (λ l. g x ++ l) (pieces g rest xs k i (omega (arith, l)) e) ∙ sym (append_assoc (g x) (flat_map g xs) rest)
+
+pub items_err : (h : Common) (f : LinesSoFar) (n : ℕ) (v w i j : List ℕ) (is : List (List ℕ)) (copies k : ℕ) (old mid new : List Attributes) (e : SubmitError) → k < length is → i ≡ get_or is k i → w ≡ v → j ≡ i → AddsJobs h f n (over_items copies v (take k is)) old mid (Ok tt) → UnlessMemory (AddsJobs h f n (replicate copies (Some (w, j))) mid new) (Err e) → UnlessMemory (AddsJobs h f n (over_items copies v is) old new) (Err e)
+items_err h f n v w i j is copies k old mid new e l at named itemed made =
+    unless_map (AddsJobs h f n (replicate copies (Some (w, j))) mid new) (AddsJobs h f n (over_items copies v is) old new) e
+    (λ g rest.
+      let r = over_items copies v (drop (suc k) is) ++ rest in
+      let same : replicate copies (Some (w, j)) ≡ replicate copies (Some (v, i)) = (λ k. replicate copies (Some (named k, itemed k))) in
+      subst (λ q. MakesJobs h f n q old (Err e)) (pieces (λ i. replicate copies (Some (v, i))) rest is k i l at)
+      (made (replicate copies (Some (v, i)) ++ r) (Err e) (subst (λ q. MakesJobs h f n (q ++ r) mid (Err e)) same (g r))))

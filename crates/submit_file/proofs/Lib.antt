@@ -1,0 +1,4 @@
+pub mod Takings
+pub mod Puts
+pub mod Copies
+pub mod Readings

@@ -1,0 +1,4 @@
+pub mod Settings
+pub mod Errors
+pub mod Drafts
+pub mod SubmittedJobs
