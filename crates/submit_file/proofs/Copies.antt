@@ -36,7 +36,7 @@ pub copies_err : (h : Common) (f : LinesSoFar) (n : ℕ) (i : Option (List ℕ �
 copies_err h f n i copies k old mid new e l made =
     unless_map (AddsJobs h f n (i ∷ []) mid new) (AddsJobs h f n (replicate copies i) old new) e
     (λ g rest. subst (λ is. MakesJobs h f n is old (Err e)) (rep i rest k (copies - (k + 1)) copies (omega (arith, l)))
-      (made (i ∷ (replicate (copies - (k + 1)) i ++ rest)) (Err e) (g (replicate (copies - (k + 1)) i ++ rest))))
+    (made (i ∷ (replicate (copies - (k + 1)) i ++ rest)) (Err e) (g (replicate (copies - (k + 1)) i ++ rest))))
 
 pieces : {X Y : Type 0} (g : X → List Y) (rest : List Y) (is : List X) (k : ℕ) (i : X) → k < length is → i ≡ get_or is k i → flat_map g (take k is) ++ (g i ++ (flat_map g (drop (suc k) is) ++ rest)) ≡ flat_map g is ++ rest
 pieces g rest [] k i l e = absurd (omega (arith, l))
@@ -48,7 +48,7 @@ pub items_err : (h : Common) (f : LinesSoFar) (n : ℕ) (v w i j : List ℕ) (is
 items_err h f n v w i j is copies k old mid new e l at named itemed made =
     unless_map (AddsJobs h f n (replicate copies (Some (w, j))) mid new) (AddsJobs h f n (over_items copies v is) old new) e
     (λ g rest.
-      let r = over_items copies v (drop (suc k) is) ++ rest in
-      let same : replicate copies (Some (w, j)) ≡ replicate copies (Some (v, i)) = (λ k. replicate copies (Some (named k, itemed k))) in
-      subst (λ q. MakesJobs h f n q old (Err e)) (pieces (λ i. replicate copies (Some (v, i))) rest is k i l at)
-      (made (replicate copies (Some (v, i)) ++ r) (Err e) (subst (λ q. MakesJobs h f n (q ++ r) mid (Err e)) same (g r))))
+    let r = over_items copies v (drop (suc k) is) ++ rest in
+    let same : replicate copies (Some (w, j)) ≡ replicate copies (Some (v, i)) = (λ k. replicate copies (Some (named k, itemed k))) in
+    subst (λ q. MakesJobs h f n q old (Err e)) (pieces (λ i. replicate copies (Some (v, i))) rest is k i l at)
+    (made (replicate copies (Some (v, i)) ++ r) (Err e) (subst (λ q. MakesJobs h f n (q ++ r) mid (Err e)) same (g r))))

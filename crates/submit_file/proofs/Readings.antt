@@ -28,9 +28,10 @@ not_if_false b same is p = true≢false (sym (same.1 p) ∙ is)
 -- ---- a statement
 
 pub jobs_added : (h : Common) (f new : FileSoFar) (n : ℕ) (q : Queue) (r : Result (Unit {0}) SubmitError) → FitsIn f q → 0 < jobs_in q.copies q.over → UnlessMemory (AddsJobs h f.lines n (items_of q.copies q.over) f.ads new.ads) r → new.lines ≡ f.lines → new.has_queue ≡ true → UnlessMemory (TakesQueue (Asks h f n q) f new) r
-jobs_added h f new n q (Ok x) fits some made lines queue =
-    (jobs fits some (subst (λ is. MakesJobs h f.lines n is f.ads (Ok new.ads)) (append-nil (items_of q.copies q.over)) (made [] (Ok new.ads) jobs_end)),
-    (λ i. record { lines = lines i; has_queue = queue i; ads = new.ads }))
+jobs_added h f new n q (Ok x) fits some made lines queue = (
+  jobs fits some (subst (λ is. MakesJobs h f.lines n is f.ads (Ok new.ads)) (append-nil (items_of q.copies q.over)) (made [] (Ok new.ads) jobs_end)),
+  (λ i. record { lines = lines i; has_queue = queue i; ads = new.ads }),
+)
 jobs_added h f new n q (Err e) fits some made lines queue =
     unless_map (AddsJobs h f.lines n (items_of q.copies q.over) f.ads new.ads) (TakesQueue (Asks h f n q) f new) e
     (λ g. jobs fits some (subst (λ is. MakesJobs h f.lines n is f.ads (Err e)) (append-nil (items_of q.copies q.over)) (g []))) made

@@ -83,7 +83,7 @@ pub data Takes (t : Macros) (n : ℕ) (name : List ℕ → List ℕ) (read : Lis
 pub data TakesCommand (f : LinesSoFar) (t : Macros) (n : ℕ) (c : Command) (d : JobDraft) : JobDraft → Type 0 where
   no_command : setting_of (command_name c) f.commands ≡ None
       → TakesCommand f t n c d
-        (taken (attribute_name c []) (record { line = n; statement = n }) (preset_at c) d)
+      (taken (attribute_name c []) (record { line = n; statement = n }) (preset_at c) d)
   is_given : {s : Setting} {e : JobDraft} → setting_of (command_name c) f.commands ≡ Some s
       → Takes t n (attribute_name c) (value_at c) s d e → TakesCommand f t n c d e
 

@@ -238,8 +238,7 @@ impl FileSoFar {
         line: u32,
     ) -> Result<(), SubmitError>
         requires reading { heading.now < 2 ^ 63 }
-        requires few {
-            length self.old.ads + copies * length over.now.items ≤ MAX_JOBS }
+        requires few { length self.old.ads + copies * length over.now.items ≤ MAX_JOBS }
         ensures made { UnlessMemory (AddsJobs
             (common heading.entry) self.old.lines line
             (over_items copies over.now.variable over.now.items)
@@ -249,7 +248,13 @@ impl FileSoFar {
     {
         let variable = over.variable.as_str();
         for item in over.items.as_slice() {
-            match self.add_copies(alloc, heading, copies, Some((variable, item.as_str())), line) {
+            match self.add_copies(
+                alloc,
+                heading,
+                copies,
+                Some((variable, item.as_str())),
+                line,
+            ) {
                 Ok(()) => {}
                 Err(error) => return Err(error),
             }
@@ -355,11 +360,7 @@ impl FileSoFar {
 }
 
 // Sets the variable of a queue statement, where it has items.
-fn set_item(
-    alloc: Global,
-    table: &mut MacroTable,
-    item: Option<(&str, &str)>,
-) -> Result<(), Memory>
+fn set_item(alloc: Global, table: &mut MacroTable, item: Option<(&str, &str)>) -> Result<(), Memory>
     ensures { OnOk result (table.new ≡ with_item (item_of item.entry) table.old) }
 {
     match item {

@@ -144,12 +144,7 @@ impl Job<'_> {
     }
 
     // What a command gives.
-    fn add_command(
-        &self,
-        alloc: Global,
-        draft: &mut Draft,
-        command: Command,
-    ) -> Result<(), Memory>
+    fn add_command(&self, alloc: Global, draft: &mut Draft, command: Command) -> Result<(), Memory>
         ensures { OnOk result (TakesCommand
             self.now.file.now self.now.table.now self.now.line command
             (draft_of draft.old) (draft_of draft.new)) }
