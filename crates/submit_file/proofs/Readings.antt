@@ -1,7 +1,7 @@
 -- Statements and lines that are taken one after the other.
 use Rattle.std.proofs.Math.Seq.{drop-cons}
 use Rattle.std.proofs.lemmas.List.{drop_all}
-use Rattle.std.proofs.Common.{◌≡◌, ℕ, suc, ◌+◌, ◌<◌, ◌≤◌, ◌↔◌, Bool, true, false, true≢false, IsTrue, IsFalse, List, [], ◌∷◌, ◌++◌, length, get_or, drop, append-nil, Option, Some, None, Result, Ok, Err, refl, ap, sym, ◌∙◌, subst, arith}
+use Rattle.std.proofs.Common.{◌≡◌, ℕ, suc, ◌+◌, ◌<◌, ◌≤◌, ◌↔◌, Bool, true, false, true≢false, IsTrue, IsFalse, List, [], ◌∷◌, ◌++◌, length, get_or, drop, append-nil, Some, Result, Ok, Err, ap, sym, ◌∙◌, subst, arith}
 use Rattle.line_text.specs.declared.logical.Line.{Line}
 use Rattle.line_text.specs.Lines.{logical_lines}
 use Rattle.submit_lines.specs.declared.line.LineFault.{LineFault}
@@ -15,7 +15,7 @@ use Rattle.submit_file.specs.declared.file.FileSoFar.{FileSoFar}
 use Rattle.submit_file.specs.declared.setting.Setting.{Setting}
 use Rattle.submit_file.specs.Errors.{UnlessMemory, Replaced, line_error}
 use Rattle.submit_file.specs.Settings.{with_setting}
-use Rattle.submit_file.specs.SubmittedJobs.{Common, AdsResult, MakesJobs, jobs_end, AddsJobs, items_of, jobs_in, FitsIn, Asks, jobs, Queues, asks, Reads, refuses, sets, sets_attribute, refuses_queue, queues, with_name, with_ads, TakesQueue, TakesLines, begun, SubmittedJobs}
+use Rattle.submit_file.specs.SubmittedJobs.{Common, AdsResult, MakesJobs, jobs_end, AddsJobs, items_of, jobs_in, FitsIn, Asks, jobs, Queues, asks, Reads, refuses, sets, sets_attribute, refuses_queue, queues, with_name, TakesQueue, TakesLines, begun, SubmittedJobs}
 use Rattle.submit_file.proofs.Takings.{unless}
 use Rattle.submit_file.proofs.Copies.{unless_map}
 

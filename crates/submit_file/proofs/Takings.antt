@@ -1,15 +1,14 @@
 -- What a draft takes.
 use Rattle.std.proofs.Math.Seq.{drop-cons}
 use Rattle.std.proofs.lemmas.List.{drop_all}
-use Rattle.std.proofs.Common.{◌≡◌, ℕ, suc, ◌+◌, ◌<◌, ◌≤◌, ◌∷◌, length, get_or, drop, arith, List, Bool, true, false, Option, Some, None, Result, Ok, Err, OnOk, codes, [], refl, ap, sym, ◌∙◌, subst, option_map, Bor}
+use Rattle.std.proofs.Common.{◌≡◌, ℕ, suc, ◌+◌, ◌<◌, ◌≤◌, ◌∷◌, length, get_or, drop, arith, List, Option, Some, None, Result, Ok, Err, OnOk, codes, [], ap, sym, ◌∙◌, subst, option_map, Bor}
 use Rattle.ad_names.specs.declared.job.TheConstants.{CLUSTER_ID, PROC_ID, OWNER, Q_DATE, JOB_UNIVERSE, JOB_STATUS}
-use Rattle.ad_tree.specs.declared.tree.Expr.{Expr}
 use Rattle.ad_value.specs.Content.{text}
 use Rattle.ad_tree.specs.Ad.{Attributes}
-use Rattle.ad_tree.specs.Tree.{Tree, tree, literal}
+use Rattle.ad_tree.specs.Tree.{Tree, literal}
 use Rattle.submit_values.specs.declared.error.ValueError.{ValueError}
 use Rattle.submit_values.specs.declared.error.ValueError.TheVariants as value
-use Rattle.submit_values.specs.Values.{FailsValue, GivesValue, some_of}
+use Rattle.submit_values.specs.Values.{FailsValue, some_of}
 use Rattle.submit_file.specs.declared.draft.Place.{Place}
 use Rattle.submit_file.specs.Errors.{error_at, IsNoMemory, Replaced, UnlessMemory}
 use Rattle.submit_file.specs.Drafts.{JobDraft, with_given, with_refusal, taken, ad_of}

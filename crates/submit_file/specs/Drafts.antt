@@ -1,8 +1,6 @@
 -- The ad of a job in the making, and the refusal with the least line so far.
 use Rattle.std.specs.Prelude.{ℕ, List, Option, Some, None, Result, Ok, Err}
-use Rattle.std.specs.Option.{option_map}
-use Rattle.ad_tree.specs.declared.tree.Expr.{Expr}
-use Rattle.ad_tree.specs.Tree.{Tree, tree}
+use Rattle.ad_tree.specs.Tree.{Tree}
 use Rattle.ad_tree.specs.Ad.{Attributes}
 use Rattle.submit_values.specs.declared.error.ValueError.{ValueError}
 use Rattle.submit_values.specs.JobAds.{added, finished}

@@ -1,4 +1,3 @@
-use Rattle.std.proofs.Common.{rules}
 use Rattle.submit_file.specs.SubmittedJobs.{ended, no_queue}
 use Rattle.submit_file.proofs.file.FileSoFar.into_ads.Goals as goal
 

@@ -1,4 +1,4 @@
-use Rattle.std.proofs.Common.{rules, arith}
+use Rattle.std.proofs.Common.{rules}
 use Rattle.submit_file.specs.SubmittedJobs.{common}
 use Rattle.submit_file.proofs.Readings.{next_line, last_line, lines_err}
 use Rattle.submit_file.proofs.file.FileSoFar.read_lines.Goals as goal

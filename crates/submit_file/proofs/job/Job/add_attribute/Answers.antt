@@ -1,4 +1,4 @@
-use Rattle.std.proofs.Common.{refl, subst, option_map}
+use Rattle.std.proofs.Common.{subst}
 use Rattle.ad_tree.specs.Tree.{tree}
 use Rattle.submit_values.specs.Values.{GivesValue, some_of, said_by}
 use Rattle.submit_file.proofs.Takings.{on_ok, on_both, takes_read, takes_refused}

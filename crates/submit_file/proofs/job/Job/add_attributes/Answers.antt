@@ -1,4 +1,4 @@
-use Rattle.std.proofs.Common.{rules, arith}
+use Rattle.std.proofs.Common.{rules}
 use Rattle.submit_file.proofs.Takings.{chain_attribute, last_attribute}
 use Rattle.submit_file.proofs.job.Job.add_attributes.Goals as goal
 

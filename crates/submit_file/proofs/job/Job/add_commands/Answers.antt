@@ -1,4 +1,4 @@
-use Rattle.std.proofs.Common.{rules, arith}
+use Rattle.std.proofs.Common.{rules}
 use Rattle.submit_file.proofs.Takings.{chain_command, last_command}
 use Rattle.submit_file.proofs.job.Job.add_commands.Goals as goal
 

@@ -1,4 +1,4 @@
-use Rattle.std.proofs.Common.{codes, refl, subst, option_map}
+use Rattle.std.proofs.Common.{codes, refl, subst}
 use Rattle.ad_names.specs.declared.job.TheConstants.{OWNER}
 use Rattle.ad_tree.specs.Tree.{tree}
 use Rattle.submit_values.specs.Values.{GivesValue, some_of, string_at}
