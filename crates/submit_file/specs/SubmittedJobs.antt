@@ -75,26 +75,32 @@ abbrev pub place_of : Setting → ℕ → Place
 place_of s n = record { line = s.line; statement = n }
 
 -- a setting over a job's macros, at a queue statement in line n
-pub data Takes (t : Macros) (n : ℕ) (name : List ℕ → List ℕ) (read : List ℕ → Result (Option Tree) ValueError) (s : Setting) (d : JobDraft) : JobDraft → Type 0 where
+pub data Takes (t : Macros) (n : ℕ) (name : List ℕ → List ℕ)
+    (read : List ℕ → Result (Option Tree) ValueError) (s : Setting) (d : JobDraft)
+    : JobDraft → Type 0 where
   takes : {r : Result (List ℕ) SubmitError}
-      → Replaced t s.value s.line r → Takes t n name read s d (taken_at name read (place_of s n) r d)
+      → Replaced t s.value s.line r
+      → Takes t n name read s d (taken_at name read (place_of s n) r d)
 
 -- a command, or what its attribute is without it
-pub data TakesCommand (f : LinesSoFar) (t : Macros) (n : ℕ) (c : Command) (d : JobDraft) : JobDraft → Type 0 where
+pub data TakesCommand (f : LinesSoFar) (t : Macros) (n : ℕ) (c : Command) (d : JobDraft)
+    : JobDraft → Type 0 where
   no_command : setting_of (command_name c) f.commands ≡ None
       → TakesCommand f t n c d
       (taken (attribute_name c []) (record { line = n; statement = n }) (preset_at c) d)
   is_given : {s : Setting} {e : JobDraft} → setting_of (command_name c) f.commands ≡ Some s
       → Takes t n (attribute_name c) (value_at c) s d e → TakesCommand f t n c d e
 
-pub data TakesOwner (h : Common) (f : LinesSoFar) (t : Macros) (n : ℕ) (d : JobDraft) : JobDraft → Type 0 where
+pub data TakesOwner (h : Common) (f : LinesSoFar) (t : Macros) (n : ℕ) (d : JobDraft)
+    : JobDraft → Type 0 where
   no_owner : setting_of (codes "owner") f.commands ≡ None
       → TakesOwner h f t n d (with_given OWNER.now (literal (text h.owner)) d)
   is_owner : {s : Setting} {e : JobDraft} → setting_of (codes "owner") f.commands ≡ Some s
       → Takes t n (λ x. OWNER.now) (λ x. some_of (string_at x)) s d e
       → TakesOwner h f t n d e
 
-pub data TakesCommands (f : LinesSoFar) (t : Macros) (n : ℕ) : List Command → JobDraft → JobDraft → Type 0 where
+pub data TakesCommands (f : LinesSoFar) (t : Macros) (n : ℕ)
+    : List Command → JobDraft → JobDraft → Type 0 where
   commands_end : {d : JobDraft} → TakesCommands f t n [] d d
   and_command : {c : Command} {cs : List Command} {d e g : JobDraft}
       → TakesCommand f t n c d e → TakesCommands f t n cs e g → TakesCommands f t n (c ∷ cs) d g
@@ -127,7 +133,8 @@ queued h d =
     (with_given JOB_UNIVERSE.now (whole 5) (with_given Q_DATE.now (whole h.now) d))
 
 -- the attributes of a job, in their order
-pub data Fills (h : Common) (f : LinesSoFar) (t : Macros) (proc n : ℕ) (d : JobDraft) : JobDraft → Type 0 where
+pub data Fills (h : Common) (f : LinesSoFar) (t : Macros) (proc n : ℕ) (d : JobDraft)
+    : JobDraft → Type 0 where
   fills : {e g i : JobDraft} → TakesOwner h f t n (numbered h proc d) e
       → TakesCommands f t n commands (queued h e) g → TakesAttributes t n f.attributes g i
       → Fills h f t proc n d i
@@ -137,7 +144,8 @@ nothing = record { ad = Some []; refusal = None }
 
 -- The ad of a job, of a queue statement in line n; or else the refusal with the least line of its
 -- values, or that there is no room.
-pub data IsJob (h : Common) (f : LinesSoFar) (t : Macros) (proc n : ℕ) : Result Attributes SubmitError → Type 0 where
+pub data IsJob (h : Common) (f : LinesSoFar) (t : Macros) (proc n : ℕ)
+    : Result Attributes SubmitError → Type 0 where
   is_job : {d : JobDraft} → Fills h f t proc n nothing d → IsJob h f t proc n (ad_of n d)
 
 -- ---- the jobs of a queue statement
@@ -154,7 +162,8 @@ abbrev pub AdsResult : Type 0
 AdsResult = Result (List Attributes) SubmitError
 
 -- the ads so far with those of the jobs, or the refusal of the first job that is refused
-pub data MakesJobs (h : Common) (f : LinesSoFar) (n : ℕ) : List (Option (List ℕ × List ℕ)) → List Attributes → AdsResult → Type 0 where
+pub data MakesJobs (h : Common) (f : LinesSoFar) (n : ℕ)
+    : List (Option (List ℕ × List ℕ)) → List Attributes → AdsResult → Type 0 where
   jobs_end : {ads : List Attributes} → MakesJobs h f n [] ads (Ok ads)
   stops : {i : Option (List ℕ × List ℕ)} {is : List (Option (List ℕ × List ℕ))}
       {ads : List Attributes} {g : SubmitError}
@@ -165,7 +174,8 @@ pub data MakesJobs (h : Common) (f : LinesSoFar) (n : ℕ) : List (Option (List 
       → IsJob h f (with_numbers (length ads) (with_item i f.table)) (length ads) n (Ok ad)
       → MakesJobs h f n is (ads ++ ad ∷ []) r → MakesJobs h f n (i ∷ is) ads r
 
--- a part of the jobs is made: what is made of the rest is made of all, and its refusal is one of all
+-- A part of the jobs is made: what is made of the rest is made of all, and its refusal is one of
+-- all.
 abbrev pub AddsJobs : Common → LinesSoFar → ℕ → List (Option (List ℕ × List ℕ))
     → List Attributes → List Attributes → Result (Unit {0}) SubmitError → Type 0
 AddsJobs h f n is old new (Ok x) = (rest : List (Option (List ℕ × List ℕ))) (r : AdsResult)
@@ -259,7 +269,8 @@ pub data Reads (h : Common) : List Line → FileSoFar → AdsResult → Type 0 w
       → line_of l.text ≡ Ok (said.queue q) → Queues h f l.number q (Ok ads)
       → Reads h ls (with_ads ads f) r → Reads h (l ∷ ls) f r
 
--- a part of the lines is taken: what comes of the rest comes of all, and its refusal is that of all
+-- A part of the lines is taken: what comes of the rest comes of all, and its refusal is that of
+-- all.
 abbrev pub TakesLines : Common → List Line → FileSoFar → FileSoFar
     → Result (Unit {0}) SubmitError → Type 0
 TakesLines h ls old new (Ok x) = (rest : List Line) (r : AdsResult)

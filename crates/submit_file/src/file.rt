@@ -325,7 +325,8 @@ impl FileSoFar {
         requires reading { heading.now < 2 ^ 63 }
         requires few { length self.now.ads < MAX_JOBS }
         ensures { UnlessMemory (IsJob (common heading.entry) self.now.lines
-            (with_numbers (length self.now.ads) (with_item (item_of item.entry) self.now.lines.table))
+            (with_numbers (length self.now.ads)
+            (with_item (item_of item.entry) self.now.lines.table))
             (length self.now.ads) line) result }
     {
         let proc = self.ads.len() as u32;
