@@ -2,6 +2,7 @@ use crate::launches::answer_launch;
 use crate::loads::answer_load;
 use crate::macros::answer_expand;
 use crate::scripts::answer_script;
+use crate::submissions::answer_submit;
 use crate::texts::{answer_lines, answer_words};
 use cases::{Case, CaseError, read_cases};
 use std::alloc::Global;
@@ -23,6 +24,7 @@ fn answer(alloc: Global, case: Case<'_>, out: &mut String) -> Result<(), CaseErr
         "launch" => answer_launch(alloc, case, out),
         "script" => answer_script(alloc, case, out),
         "load" => answer_load(alloc, case, out),
+        "submit" => answer_submit(alloc, case, out),
         _ => Err(CaseError::Kind { line: case.line }),
     }
 }

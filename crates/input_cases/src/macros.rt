@@ -59,11 +59,12 @@ fn write_expansion(
             out.push_str("ok\t")?;
             escape(text.as_str(), out)
         }
-        Err(error) => write_refusal(&error, out),
+        Err(error) => write_macro_error(&error, out),
     }
 }
 
-fn write_refusal(error: &MacroError, out: &mut String) -> Result<(), AllocError> {
+/// Appends why a text has no expansion.
+pub(crate) fn write_macro_error(error: &MacroError, out: &mut String) -> Result<(), AllocError> {
     match error {
         MacroError::Bad { at } => write!(out, "Bad\t{at}"),
         MacroError::Circular { name } => {

@@ -2,7 +2,8 @@
 //! standard input, an answer a line on standard output.
 //!
 //! `lines TEXT`, `expand TEXT NAME=VALUE ..`, `words TEXT plain`, `words TEXT quoted`,
-//! `launch AD`, `script TEXT MACHINE ..`, `load NUMBER JOBS`: README.md says what each answers.
+//! `launch AD`, `script TEXT MACHINE ..`, `load NUMBER JOBS`, `submit TEXT CLUSTER OWNER READING`:
+//! README.md says what each answers.
 #![tactic(auto)]
 
 mod answers;
@@ -10,6 +11,7 @@ mod launches;
 mod loads;
 mod macros;
 mod scripts;
+mod submissions;
 mod texts;
 
 use crate::answers::answer_all;
