@@ -1,5 +1,5 @@
 use crate::ads::{Question, answer_attribute, answer_pair};
-use crate::copies::answer_copies;
+use crate::copies::{answer_copies, answer_size};
 use crate::texts::{answer_ad, answer_expr};
 use cases::{Case, CaseError, read_cases};
 use std::alloc::Global;
@@ -22,6 +22,7 @@ fn answer(alloc: Global, case: Case<'_>, out: &mut String) -> Result<(), CaseErr
         "rank" => answer_pair(alloc, case, Question::Rank, out),
         "judge" => answer_pair(alloc, case, Question::Match, out),
         "apart" => answer_copies(alloc, case, out),
+        "size" => answer_size(alloc, case, out),
         _ => Err(CaseError::Kind { line: case.line }),
     }
 }

@@ -1,10 +1,11 @@
 use crate::ads::bad_ad;
 use crate::texts::write_attributes;
-use ad_parse::parse_ad;
+use ad_parse::{parse_ad, printed_size};
 use ad_tree::{Ad, SetError};
 use ad_value::Copied;
 use cases::{Case, CaseError};
 use std::alloc::{AllocError, Global};
+use std::fmt::Write;
 
 // Two copies of an ad.
 #[derive(Drop)]
@@ -29,6 +30,17 @@ pub(crate) fn answer_copies(
         Ok(copies) => Ok(write_copies(alloc, &ad, &copies, out)?),
         Err(error) => Err(bad_set(case, error)),
     }
+}
+
+/// How many bytes the names and canonical texts of an ad have.
+pub(crate) fn answer_size(
+    alloc: Global,
+    case: Case<'_>,
+    out: &mut String,
+) -> Result<(), CaseError> {
+    let ad = read_ad(alloc, case, case.one_field()?)?;
+    let size = printed_size(&ad);
+    Ok(write!(out, "ok\t{size}")?)
 }
 
 fn read_ad(alloc: Global, case: Case<'_>, field: &str) -> Result<Ad, CaseError> {

@@ -2,8 +2,8 @@
 //! answer a line on standard output.
 //!
 //! `expr TEXT`, `ad TEXT`, `eval MY TARGET NAME NOW`, `holds MY TARGET NAME NOW`,
-//! `rank MY TARGET NOW`, `judge JOB SLOT NOW`, `apart AD NAME MORE`: README.md says what each
-//! answers.
+//! `rank MY TARGET NOW`, `judge JOB SLOT NOW`, `apart AD NAME MORE`, `size AD`: README.md says what
+//! each answers.
 #![tactic(auto)]
 
 mod ads;
