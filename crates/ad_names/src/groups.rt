@@ -3,6 +3,8 @@ ghost use Rattle.std.specs.List.{list_any};
 ghost use Rattle.ad_value.specs.Names.{same_name};
 ghost use Rattle.ad_names.specs.Groups.{pool_names, run_names};
 
+use ad_value::same_name;
+
 use crate::job::JOB_STATUS;
 use crate::pool::{
     EXIT_BY_SIGNAL, EXIT_CODE, EXIT_SIGNAL, HOLD_REASON, LEASE_UNTIL, RUN_CLAIM, RUN_NUMBER,
@@ -25,10 +27,4 @@ pub fn is_pool_name(name: &str) -> bool
         || same_name(name, EXIT_CODE)
         || same_name(name, EXIT_SIGNAL)
         || is_run_name(name)
-}
-
-fn same_name(a: &str, b: &str) -> bool
-    ensures { result ≡ same_name a.now b.now }
-{
-    a.eq_ignore_ascii_case(b)
 }

@@ -12,7 +12,6 @@ pub mod OneMisfit
 pub mod Texts
 pub mod Moved
 pub mod Again
-pub mod Blanks
 pub mod Lines
 pub mod Pieces
 pub mod Apart

@@ -9,7 +9,8 @@ use Rattle.std.specs.List.{prefix_len, suffix_len}
 use Rattle.ad_tree.specs.Ad.{Attributes, lookup}
 use Rattle.ad_token.specs.Names.{is_letter, is_name_byte, name_length, leading_name, is_name}
 use Rattle.ad_token.specs.Lexing.{is_blank}
-use Rattle.ad_parse.specs.AdText.{past_blanks, trimmed_end, trimmed_text, is_skipped, around_sign, setting_from, setting, is_full_for}
+use Rattle.ad_token.specs.Blanks.{past_blanks, trimmed_end, trimmed_text}
+use Rattle.ad_parse.specs.AdText.{is_skipped, around_sign, setting_from, setting, is_full_for}
 use Rattle.ad_parse.specs.AdLines.{AreBlanks, IsSkipped, blank, comment, IsTrimmed, IsSetting, HasRoom}
 use Rattle.ad_token.proofs.Pieces.{NameParts, name_parts_from, run_append}
 use Rattle.ad_parse.proofs.Passing.{past_run, before_run, all_append, past_whole, start_passes, start_stops, end_passes, end_stops}

@@ -1,12 +1,12 @@
 -- What ad a text says, one attribute a line, or why it is refused.
 use Rattle.ad_value.specs.Bytes.{code}
 use Rattle.std.specs.Prelude.{◌≡◌, ℕ, ◌+◌, ◌-◌, ◌^◌, ◌==◌, ◌&&◌, ◌||◌, not, min, nat_eq, Bool, List, [], ◌∷◌, length, take, drop, slice_index, Option, Some, None, is_some, Result, Ok, Err, if◌then◌else◌}
-use Rattle.std.specs.List.{prefix_len, suffix_len, slice_split}
+use Rattle.std.specs.List.{slice_split}
 use Rattle.ad_tree.specs.declared.ad.TheConstants.{MAX_ATTRIBUTES}
 use Rattle.ad_tree.specs.Tree.{Tree}
 use Rattle.ad_tree.specs.Ad.{Attributes, lookup, with_attribute}
 use Rattle.ad_token.specs.Names.{name_length, leading_name, is_name}
-use Rattle.ad_token.specs.Lexing.{is_blank}
+use Rattle.ad_token.specs.Blanks.{past_blanks, trimmed_text}
 use Rattle.ad_parse.specs.declared.error.ParseError.{ParseError}
 use Rattle.ad_parse.specs.declared.error.AdError.{AdError}
 use Rattle.ad_parse.specs.declared.error.AdError.TheVariants as fault
@@ -17,17 +17,6 @@ use Rattle.ad_parse.specs.ExprText.{expression_at}
 -- the pieces between newlines
 abbrev pub lines_of_text : List ℕ → List (List ℕ)
 lines_of_text text = slice_split (λ b. b == code "\n") text
-
--- the text after the blanks that it begins with
-abbrev pub past_blanks : List ℕ → List ℕ
-past_blanks bs = drop (prefix_len is_blank bs) bs
-
--- the text without the blanks at its end, and at both ends
-abbrev pub trimmed_end : List ℕ → List ℕ
-trimmed_end bs = take (length bs - suffix_len is_blank bs) bs
-
-abbrev pub trimmed_text : List ℕ → List ℕ
-trimmed_text bs = trimmed_end (past_blanks bs)
 
 -- a line of blanks alone, or one that begins with `#`
 abbrev pub is_skipped : List ℕ → Bool

@@ -1,19 +1,17 @@
 // From a text to an ad.
 
 ghost use Rattle.std.specs.Prelude.{◌≡◌, ◌≢◌, ◌≤◌, length, IfOk, IfErr, Ok, Err};
-ghost use Rattle.std.specs.List.{prefix_len, suffix_len};
 ghost use Rattle.std.specs.Option.{option_map};
 ghost use Rattle.ad_tree.specs.Ad.{Attributes};
 ghost use Rattle.ad_tree.specs.Tree.{tree};
-ghost use Rattle.ad_token.specs.Lexing.{is_blank};
 ghost use Rattle.ad_parse.specs.declared.error.AdError.{AdError};
 ghost use Rattle.ad_parse.specs.ExprText.{expression_at};
 ghost use Rattle.ad_parse.specs.AdLines.{IsAdText, IsAdRefused};
-ghost use Rattle.ad_parse.specs.AdText.{GivesAd, ad_at, with_line, with_expression, unless_refused, at_line, is_skipped, setting, setting_from, around_sign, past_blanks, trimmed_end, trimmed_text};
+ghost use Rattle.ad_parse.specs.AdText.{GivesAd, ad_at, with_line, with_expression, unless_refused, at_line, is_skipped, setting, setting_from, around_sign};
 
 use crate::error::{AdError, ParseError};
 use crate::expression::read_text;
-use ad_token::{is_blank, is_name, name_length};
+use ad_token::{is_name, name_length, past_blanks, trimmed_text};
 use ad_tree::{Ad, Expr, SetError};
 use std::alloc::Global;
 
@@ -122,7 +120,7 @@ fn setting(line: &str) -> Option<(&str, &str)>
     setting_from(past_blanks(line))
 }
 
-#[tactic(auto, using(crate::proofs::Blanks::name_boundary))]
+#[tactic(auto, using(ad_token::proofs::Prefixes::name_boundary))]
 fn setting_from(text: &str) -> Option<(&str, &str)>
     ensures { option_map (λ s. (s.0.now, s.1.now)) result ≡ setting_from text.now }
 {
@@ -130,7 +128,7 @@ fn setting_from(text: &str) -> Option<(&str, &str)>
     around_sign(name, past_blanks(after))
 }
 
-#[tactic(auto, using(crate::proofs::Blanks::past_first))]
+#[tactic(auto, using(ad_token::proofs::Prefixes::past_first))]
 fn around_sign<'a>(name: &'a str, after: &'a str) -> Option<(&'a str, &'a str)>
     ensures { option_map (λ s. (s.0.now, s.1.now)) result ≡ around_sign name.now after.now }
 {
@@ -138,40 +136,4 @@ fn around_sign<'a>(name: &'a str, after: &'a str) -> Option<(&'a str, &'a str)>
         return None;
     }
     Some((name, trimmed_text(&after[1..])))
-}
-
-fn trimmed_text(text: &str) -> &str
-    ensures { result.now ≡ trimmed_text text.now }
-{
-    trimmed_end(past_blanks(text))
-}
-
-#[tactic(auto, using(crate::proofs::Blanks::start_boundary))]
-fn past_blanks(text: &str) -> &str
-    ensures { result.now ≡ past_blanks text.now }
-{
-    &text[blanks_at_start(text.as_bytes())..]
-}
-
-#[tactic(auto, using(crate::proofs::Blanks::end_boundary))]
-fn trimmed_end(text: &str) -> &str
-    ensures { result.now ≡ trimmed_end text.now }
-{
-    &text[..text.len() - blanks_at_end(text.as_bytes())]
-}
-
-// How many blanks a text begins with.
-fn blanks_at_start(bytes: &[u8]) -> usize
-    ensures value { result ≡ prefix_len is_blank bytes.now }
-    ensures within { result ≤ length bytes.now }
-{
-    bytes.iter().take_while(|b| is_blank(**b)).count()
-}
-
-// How many blanks a text ends with.
-fn blanks_at_end(bytes: &[u8]) -> usize
-    ensures value { result ≡ suffix_len is_blank bytes.now }
-    ensures within { result ≤ length bytes.now }
-{
-    bytes.iter().rev().take_while(|b| is_blank(**b)).count()
 }

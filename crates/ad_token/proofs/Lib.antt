@@ -1,4 +1,5 @@
 pub mod Prefixes
+pub mod Trimmed
 pub mod Escapes
 pub mod Ends
 pub mod Turns

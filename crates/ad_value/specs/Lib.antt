@@ -1,5 +1,6 @@
 pub mod Bytes
 pub mod Content
+pub mod Decimals
 pub mod Gives
 pub mod Names
 pub mod Order

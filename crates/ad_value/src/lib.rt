@@ -4,6 +4,8 @@
 
 mod literal;
 mod memory;
+mod name;
+mod number;
 mod order;
 mod seq;
 mod text;
@@ -13,6 +15,8 @@ mod value;
 
 pub use literal::write_item_separator;
 pub use memory::Memory;
+pub use name::same_name;
+pub use number::number_in;
 pub use order::{Order, fold_cmp, fold_eq};
 pub use seq::{Copied, Seq};
 pub use text::{Text, TextList};

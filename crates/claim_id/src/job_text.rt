@@ -2,9 +2,9 @@ ghost use Rattle.std.specs.Prelude.{◌≡◌, ◌↔◌, IfOk, IfSome};
 ghost use Rattle.claim_id.specs.declared.numbers.JobId.{JobId};
 ghost use Rattle.claim_id.specs.Texts.{job_text, IsJob};
 
-use crate::number::{number_before, number_of};
+use crate::number::number_before;
 use crate::numbers::JobId;
-use ad_value::{Memory, Text};
+use ad_value::{Memory, Text, number_in};
 use std::alloc::Global;
 use thiserror::Error;
 
@@ -39,7 +39,7 @@ fn job_of(text: &str) -> Option<JobId>
     ensures only { (job : JobId) → IsJob job → text.now ≡ job_text job → result ≡ Some job }
 {
     let (cluster, rest) = number_before(text, '.')?;
-    job_id(cluster, number_of(rest)?)
+    job_id(cluster, number_in(rest)?)
 }
 
 // The job of these numbers, where they are in their ranges.

@@ -6,26 +6,26 @@ use mathlib.Core.List.{IsPrefix}
 use Rattle.logbook.specs.Pages.{Cell, cell}
 use Rattle.receipt_roll.specs.declared.growth.Growth.{Growth}
 use Rattle.receipt_roll.specs.declared.growth.Growth.TheVariants.{NewRight, NewItem}
-use Rattle.receipt_roll.specs.Growth.{items_from, last_right, newest_right}
+use Rattle.receipt_roll.specs.Growth.{items_since, last_right, newest_right}
 use Rattle.receipt_roll.specs.Steps.{AreUsedUp, GrowsBy}
 use Rattle.receipt_roll.proofs.Cells.{home_after_set, home_after_append}
 
 module _ {T : Type 0} where
   items_case : (right : ℕ) (item : T) (used next : ℕ) (log more : List (Growth T))
-      → items_from next (log ++ more) ≡ items_from next log ++ items_from (last_right next log) more
-      → items_from right (log ++ more) ≡ items_from right log ++ items_from (last_right right log) more
+      → items_since next (log ++ more) ≡ items_since next log ++ items_since (last_right next log) more
+      → items_since right (log ++ more) ≡ items_since right log ++ items_since (last_right right log) more
       → (b : Bool) → (used == right) ≡ b
-      → items_from right ((NewItem item used next ∷ log) ++ more)
-      ≡ items_from right (NewItem item used next ∷ log) ++ items_from (last_right right (NewItem item used next ∷ log)) more
+      → items_since right ((NewItem item used next ∷ log) ++ more)
+      ≡ items_since right (NewItem item used next ∷ log) ++ items_since (last_right right (NewItem item used next ∷ log)) more
   items_case right item used next log more follows passes true is = rw is (ap (λ (xs : List T). item ∷ xs) follows)
   items_case right item used next log more follows passes false is = rw is passes
 
-  pub items_from-append : (right : ℕ) (log more : List (Growth T))
-      → items_from right (log ++ more) ≡ items_from right log ++ items_from (last_right right log) more
-  items_from-append right [] more = refl
-  items_from-append right (NewRight made ∷ log) more = items_from-append right log more
-  items_from-append right (NewItem item used next ∷ log) more =
-      items_case right item used next log more (items_from-append next log more) (items_from-append right log more) (used == right) refl
+  pub items_since-append : (right : ℕ) (log more : List (Growth T))
+      → items_since right (log ++ more) ≡ items_since right log ++ items_since (last_right right log) more
+  items_since-append right [] more = refl
+  items_since-append right (NewRight made ∷ log) more = items_since-append right log more
+  items_since-append right (NewItem item used next ∷ log) more =
+      items_case right item used next log more (items_since-append next log more) (items_since-append right log more) (used == right) refl
 
   right_case : (right : ℕ) (item : T) (used next : ℕ) (log more : List (Growth T))
       → last_right next (log ++ more) ≡ last_right (last_right next log) more
@@ -73,8 +73,8 @@ module _ {T : Type 0} where
 
   nothing_added_case : (cells : List Cell) (right : ℕ) (item : T) (used next : ℕ) (log : List (Growth T))
       → (cell cells right).1 ≡ false → (cell cells used).1 ≡ true
-      → (items_from right log ≡ []) × (last_right right log ≡ right) → (b : Bool) → (used == right) ≡ b
-      → (items_from right (NewItem item used next ∷ log) ≡ []) × (last_right right (NewItem item used next ∷ log) ≡ right)
+      → (items_since right log ≡ []) × (last_right right log ≡ right) → (b : Bool) → (used == right) ≡ b
+      → (items_since right (NewItem item used next ∷ log) ≡ []) × (last_right right (NewItem item used next ∷ log) ≡ right)
   nothing_added_case cells right item used next log away home rest true is =
       let same : used ≡ right = grind (arith, nat_tests) in
       let here : (cell cells right).1 ≡ true = subst (λ (key : ℕ). (cell cells key).1 ≡ true) same home in
@@ -83,7 +83,7 @@ module _ {T : Type 0} where
 
   -- nothing was added with a right whose cell is away
   pub nothing_added : (cells : List Cell) (right : ℕ) (log : List (Growth T)) → (cell cells right).1 ≡ false → AreUsedUp cells log
-      → (items_from right log ≡ []) × (last_right right log ≡ right)
+      → (items_since right log ≡ []) × (last_right right log ≡ right)
   nothing_added cells right [] away up = (refl, refl)
   nothing_added cells right (NewRight made ∷ log) away up = nothing_added cells right log away up
   nothing_added cells right (NewItem item used next ∷ log) away up =
@@ -94,7 +94,7 @@ module _ {T : Type 0} where
       → (cell cells right).1 ≡ false → AreUsedUp cells (log ++ more) → GrowsBy first log (log ++ more) [] right
   no_more cells first right log more is away up =
       let none = nothing_added cells (last_right first log) more (subst (λ (key : ℕ). (cell cells key).1 ≡ false) (sym is) away) (used_up_rest cells log more up) in
-      (items_from-append first log more ∙ ap (λ (xs : List T). items_from first log ++ xs) none.0, last_right-append first log more ∙ (none.1 ∙ is))
+      (items_since-append first log more ∙ ap (λ (xs : List T). items_since first log ++ xs) none.0, last_right-append first log more ∙ (none.1 ∙ is))
 
   -- and it has one item more, once that right adds one
   pub one_more : (cells : List Cell) (first right next : ℕ) (item : T) (log more : List (Growth T)) → last_right first log ≡ right
@@ -103,16 +103,16 @@ module _ {T : Type 0} where
   one_more cells first right next item log more is away up =
       let none = no_more cells first right log more is away up in
       let same : (right == right) ≡ true = grind (arith, nat_tests) in
-      let items : items_from first (log ++ more) ≡ items_from first log = none.0 ∙ append-nil (items_from first log) in (
-        items_from-append first (log ++ more) (NewItem item right next ∷ []) ∙ rw (none.1, same, items) refl,
+      let items : items_since first (log ++ more) ≡ items_since first log = none.0 ∙ append-nil (items_since first log) in (
+        items_since-append first (log ++ more) (NewItem item right next ∷ []) ∙ rw (none.1, same, items) refl,
         last_right-append first (log ++ more) (NewItem item right next ∷ []) ∙ rw (none.1, same) refl,
       )
 
   -- a longer log has a roll's items, and perhaps more
-  pub items_longer : (right : ℕ) (log longer : List (Growth T)) → IsPrefix log longer → IsPrefix (items_from right log) (items_from right longer)
+  pub items_longer : (right : ℕ) (log longer : List (Growth T)) → IsPrefix log longer → IsPrefix (items_since right log) (items_since right longer)
   items_longer right log longer prefix = (
-    items_from (last_right right log) prefix.0,
-    sym (items_from-append right log prefix.0) ∙ ap (λ (l : List (Growth T)). items_from right l) prefix.1,
+    items_since (last_right right log) prefix.0,
+    sym (items_since-append right log prefix.0) ∙ ap (λ (l : List (Growth T)). items_since right l) prefix.1,
   )
 
   pub prefix_trans : (xs ys zs : List (Growth T)) → IsPrefix xs ys → IsPrefix ys zs → IsPrefix xs zs

@@ -4,11 +4,11 @@ use Rattle.receipt_roll.specs.declared.growth.Growth.{Growth}
 use Rattle.receipt_roll.specs.declared.growth.Growth.TheVariants.{NewRight, NewItem}
 
 -- the items that were added with this right, and with the rights that followed on it
-abbrev pub items_from : {T : Type 0} → ℕ → List (Growth T) → List T
-items_from right [] = []
-items_from right (NewRight made ∷ log) = items_from right log
-items_from right (NewItem item used next ∷ log) =
-    if used == right then item ∷ items_from next log else items_from right log
+abbrev pub items_since : {T : Type 0} → ℕ → List (Growth T) → List T
+items_since right [] = []
+items_since right (NewRight made ∷ log) = items_since right log
+items_since right (NewItem item used next ∷ log) =
+    if used == right then item ∷ items_since next log else items_since right log
 
 -- the right that followed last on this one, and is not used up
 abbrev pub last_right : {T : Type 0} → ℕ → List (Growth T) → ℕ

@@ -4,7 +4,7 @@ use mathlib.Core.List.{IsPrefix}
 use Rattle.logbook.specs.Pages.{Cell, cell, Named, Step, View, nib, may_make}
 use Rattle.receipt_roll.specs.declared.growth.Growth.{Growth}
 use Rattle.receipt_roll.specs.declared.growth.Growth.TheVariants.{NewRight, NewItem}
-use Rattle.receipt_roll.specs.Growth.{items_from, last_right, newest_right}
+use Rattle.receipt_roll.specs.Growth.{items_since, last_right, newest_right}
 
 -- the cell is there, and no pen may write it
 abbrev pub IsHome : List Cell → ℕ → Type 0
@@ -29,7 +29,7 @@ IsStepWord word = (word.tracked ≡ true) × (word.key ≡ 0)
 abbrev pub GrowsBy :
     {T : Type 0} → ℕ → List (Growth T) → List (Growth T) → List T → ℕ → Type 0
 GrowsBy first before after more right =
-    (items_from first after ≡ items_from first before ++ more) × (last_right first after ≡ right)
+    (items_since first after ≡ items_since first before ++ more) × (last_right first after ≡ right)
 
 -- P holds of the first right of each roll and of a beginning of the log that was seen, where that
 -- beginning ends with this as the roll's last right
@@ -51,7 +51,7 @@ abbrev pub MakesRight :
 MakesRight step before found after =
     let right = newest_right 0 after.0 in
     (after.1.0 ≡ nib may_make right 0)
-    × (items_from right after.0 ≡ [])
+    × (items_since right after.0 ≡ [])
     × (last_right right after.0 ≡ right)
 
 -- a roll whose last right this is did not grow since it was seen

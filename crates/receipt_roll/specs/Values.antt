@@ -2,7 +2,7 @@
 use Rattle.std.specs.Prelude.{ℕ, List, length}
 use Rattle.logbook.specs.Pages.{Book}
 use Rattle.receipt_roll.specs.declared.growth.Growth.{Growth}
-use Rattle.receipt_roll.specs.Growth.{items_from, newest_right}
+use Rattle.receipt_roll.specs.Growth.{items_since, newest_right}
 
 -- which roll it is: its book, and the right with which its first item is added
 pub record RollMark : Type 0 where
@@ -18,7 +18,7 @@ pub record MarkedList (T : Type 0) : Type 0 where
 abbrev pub marked_list : {T : Type 0} → Book → List (Growth T) → List (Growth T) → MarkedList T
 marked_list book first seen =
     let right = newest_right 0 first in
-    record { list = items_from right seen; mark = record { book = book; first = right } }
+    record { list = items_since right seen; mark = record { book = book; first = right } }
 
 pub record RollValue (T : Type 0) : Type 0 where
   pub list : List T

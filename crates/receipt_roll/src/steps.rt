@@ -3,7 +3,7 @@ ghost use Rattle.std.specs.Prelude.{◌≡◌, ℕ, List, [], ◌∷◌};
 ghost use mathlib.Core.List.{IsPrefix};
 ghost use Rattle.logbook.specs.Pages.{may_write};
 ghost use Rattle.receipt_roll.specs.declared.growth.Growth.{Growth};
-ghost use Rattle.receipt_roll.specs.Growth.{items_from, last_right, newest_right};
+ghost use Rattle.receipt_roll.specs.Growth.{items_since, last_right, newest_right};
 ghost use Rattle.receipt_roll.specs.Steps.{EachRollOf, GrowsBy, IsStepWord};
 
 use crate::growth::Growth;
@@ -18,7 +18,7 @@ pub fn make_right<T>(word: &StepWord<T>, seen: &mut Knowledge<T>) -> Pen
     ensures longer { IsPrefix seen.old.log seen.new.log }
     ensures right { result.nib.right ≡ may_write }
     ensures newest { result.nib.key ≡ newest_right 0 seen.new.log }
-    ensures no_items { items_from result.nib.key seen.new.log ≡ [] }
+    ensures no_items { items_since result.nib.key seen.new.log ≡ [] }
     ensures unused { last_right result.nib.key seen.new.log ≡ result.nib.key }
 {
     let mut pen = seen.no_pen();

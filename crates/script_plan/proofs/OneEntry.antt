@@ -13,7 +13,8 @@ use Rattle.script_plan.specs.declared.entry.Crash.{Crash}
 use Rattle.script_plan.specs.declared.entry.Entry.{Entry}
 use Rattle.script_plan.specs.declared.entry.Entry.TheVariants as entry
 use Rattle.script_plan.specs.declared.entry.Load.{Load}
-use Rattle.script_plan.specs.Entries.{IsNumber, IsVerb, IsOrder, IsMail, IsDaemon, IsCrash, IsLoad, SaysAfter, Says}
+use Rattle.ad_value.specs.Decimals.{IsNumber}
+use Rattle.script_plan.specs.Entries.{IsVerb, IsOrder, IsMail, IsDaemon, IsCrash, IsLoad, SaysAfter, Says}
 use Rattle.script_plan.specs.Scripts.{LineSays}
 use Rattle.script_plan.proofs.Values.{same_value}
 

@@ -1,6 +1,8 @@
 -- What a line of a script says.
 use Rattle.std.specs.Prelude.{◌≡◌, ◌≢◌, ℕ, ◌<◌, ◌≤◌, ◌^◌, Bool, true, false, List, [], ◌∷◌, Option, Some, None, position, codes, decimal}
 use Rattle.std.specs.Str.{bytes_eq}
+use Rattle.ad_value.specs.Decimals.{IsNumber}
+use Rattle.pool_outer.specs.declared.clock.TheConstants.{LAST_READING}
 use Rattle.claim_id.specs.declared.numbers.JobId.{JobId}
 use Rattle.claim_id.specs.declared.order.Verb.{Verb}
 use Rattle.claim_id.specs.declared.order.Verb.TheVariants as verb
@@ -10,12 +12,7 @@ use Rattle.script_plan.specs.declared.entry.Crash.{Crash}
 use Rattle.script_plan.specs.declared.entry.Entry.{Entry}
 use Rattle.script_plan.specs.declared.entry.Entry.TheVariants as entry
 use Rattle.script_plan.specs.declared.entry.Load.{Load}
-use Rattle.script_plan.specs.declared.orders.TheConstants.{LAST_READING}
 use Rattle.script_plan.specs.declared.storms.TheConstants.{MAX_LOAD_NUMBER, MAX_LOAD_JOBS}
-
--- a word is a number of 64 bits in decimal digits, without leading zeros
-abbrev pub IsNumber : List ℕ → ℕ → Type 0
-IsNumber word n = (n < 2 ^ 64) × (word ≡ decimal n)
 
 abbrev pub IsTime : List ℕ → ℕ → Type 0
 IsTime word n = IsNumber word n × (n ≤ LAST_READING)

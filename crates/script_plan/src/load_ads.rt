@@ -5,7 +5,6 @@ ghost use Rattle.ad_tree.specs.Tree.{tree, reference};
 ghost use Rattle.ad_tree.specs.declared.operator.Scope.{Scope};
 ghost use Rattle.script_plan.specs.Loads.{load_ad, load_ads, memory_of, next_number, at_least, enough, given_tree, with_rows};
 
-use crate::orders::LAST_READING;
 use ad_names::job::{
     ARGS, CLUSTER_ID, CMD, ERR, IN, IWD, JOB_PRIO, JOB_STATUS, JOB_UNIVERSE, OUT, OWNER, PROC_ID,
     Q_DATE, REQUEST_CPUS, REQUEST_DISK, REQUEST_MEMORY,
@@ -15,6 +14,7 @@ use ad_names::slot::{CPUS, DISK, MEMORY};
 use ad_tree::{Ad, AdList, BinOp, Expr, Rest, RestList, Scope};
 use ad_value::{Memory, Text, Value};
 use claim_id::JobId;
+use pool_outer::LAST_READING;
 use std::alloc::Global;
 
 /// What an attribute is set to: an integer, a string, or that the other ad has what this one asks

@@ -6,13 +6,9 @@ ghost use Rattle.claim_id.specs.declared.order.Verb.{Verb};
 ghost use Rattle.claim_id.specs.declared.order.Wish.{Wish};
 ghost use Rattle.script_plan.specs.Entries.{IsTime, IsVerb, IsJobWord, IsOrder};
 
-use crate::number::number_of;
-use ad_value::Text;
+use ad_value::{Text, number_in};
 use claim_id::{JobId, Verb, Wish};
-
-/// The last reading that an order may name: 9999-12-30 22:00:00 UTC, in seconds since 1970-01-01
-/// 00:00:00 UTC.
-pub const LAST_READING: u64 = 253_402_207_200;
+use pool_outer::LAST_READING;
 
 /// The order that the words behind `at` are: its time, its verb and its job. Computes in O(bytes).
 pub(crate) fn order(words: &[Text]) -> Option<Wish>
@@ -39,7 +35,7 @@ fn order_of(time: &str, verb: &str, job: &str) -> Option<Wish>
 fn time_of(word: &str) -> Option<u64>
     ensures { (n : ℕ) → (result ≡ Some n) ↔ IsTime word.now n }
 {
-    let number = number_of(word)?;
+    let number = number_in(word)?;
     if number > LAST_READING {
         return None;
     }

@@ -3,13 +3,13 @@
 ghost use Rattle.std.specs.Prelude.{◌≡◌, ◌↔◌, ℕ, Option};
 ghost use Rattle.std.specs.List.{position};
 ghost use Rattle.std.specs.Str.{bytes_eq};
+ghost use Rattle.ad_value.specs.Decimals.{IsNumber};
 ghost use Rattle.script_plan.specs.declared.entry.Crash.{Crash};
 ghost use Rattle.script_plan.specs.declared.entry.Load.{Load};
-ghost use Rattle.script_plan.specs.Entries.{IsNumber, IsMail, IsPoint, IsDaemon, IsCrash, IsLoad, IsLoadNumber, IsLoadJobs};
+ghost use Rattle.script_plan.specs.Entries.{IsMail, IsPoint, IsDaemon, IsCrash, IsLoad, IsLoadNumber, IsLoadJobs};
 
 use crate::entry::{Crash, Load};
-use crate::number::number_of;
-use ad_value::{Text, TextList};
+use ad_value::{Text, TextList, number_in};
 
 /// The greatest number of a load.
 pub const MAX_LOAD_NUMBER: u64 = 2_147_483_647;
@@ -24,7 +24,7 @@ pub(crate) fn mail(words: &[Text]) -> Option<u64>
     let [number] = words else {
         return None;
     };
-    number_of(number.as_str())
+    number_in(number.as_str())
 }
 
 /// The crash that the words behind `crash` are: a daemon and a point. Computes in O(bytes of the
@@ -70,7 +70,7 @@ fn place_of(machines: &[Text], name: &str) -> Option<usize>
 fn point_of(word: &str) -> Option<u64>
     ensures { (n : ℕ) → (result ≡ Some n) ↔ IsPoint word.now n }
 {
-    let number = number_of(word)?;
+    let number = number_in(word)?;
     if number == 0 {
         return None;
     }
@@ -101,7 +101,7 @@ fn load_of(number: &str, jobs: &str) -> Option<Load>
 fn load_number(word: &str) -> Option<u32>
     ensures { (n : ℕ) → (result ≡ Some n) ↔ IsLoadNumber word.now n }
 {
-    let number = number_of(word)?;
+    let number = number_in(word)?;
     if number > MAX_LOAD_NUMBER {
         return None;
     }
@@ -112,7 +112,7 @@ fn load_number(word: &str) -> Option<u32>
 fn load_jobs(word: &str) -> Option<u32>
     ensures { (n : ℕ) → (result ≡ Some n) ↔ IsLoadJobs word.now n }
 {
-    let number = number_of(word)?;
+    let number = number_in(word)?;
     if number == 0 || number > MAX_LOAD_JOBS {
         return None;
     }

@@ -4,7 +4,7 @@ use Rattle.std.specs.Prelude.{ℕ, ◌==◌, ◌&&◌, ◌||◌, not, nat_eq, Bo
 use Rattle.std.specs.Option.{option_map_or}
 use Rattle.ad_value.specs.Names.{same_name}
 use Rattle.ad_token.specs.Lexing.{is_blank}
-use Rattle.ad_parse.specs.AdText.{trimmed_text}
+use Rattle.ad_token.specs.Blanks.{trimmed_text}
 use Rattle.submit_lines.specs.declared.line.SubmitLine.{SubmitLine}
 use Rattle.submit_lines.specs.declared.line.SubmitLine.TheVariants as line
 use Rattle.submit_lines.specs.declared.line.LineFault.{LineFault}

@@ -6,7 +6,7 @@ use Rattle.ad_value.specs.Names.{same_name}
 use Rattle.ad_names.specs.declared.job.TheConstants.{CLUSTER_ID, PROC_ID, OWNER, Q_DATE, JOB_STATUS}
 use Rattle.ad_names.specs.Groups.{run_names}
 use Rattle.ad_token.specs.Names.{is_name_byte, name_length}
-use Rattle.ad_parse.specs.AdText.{past_blanks}
+use Rattle.ad_token.specs.Blanks.{past_blanks}
 
 -- a byte of a macro's name
 abbrev pub is_macro_byte : ℕ → Bool

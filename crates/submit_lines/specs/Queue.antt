@@ -3,7 +3,7 @@ use Rattle.ad_value.specs.Bytes.{code}
 use Rattle.std.specs.Prelude.{ℕ, ◌==◌, ◌&&◌, ◌||◌, not, nat_eq, Bool, List, ◌∷◌, length, codes, filter, Option, Some, None, if◌then◌else◌}
 use Rattle.std.specs.List.{list_any, slice_split}
 use Rattle.ad_token.specs.Lexing.{is_blank}
-use Rattle.ad_parse.specs.AdText.{trimmed_text}
+use Rattle.ad_token.specs.Blanks.{trimmed_text}
 use Rattle.submit_lines.specs.declared.queue.Queue.{Queue}
 use Rattle.submit_lines.specs.declared.queue.Over.{Over}
 use Rattle.submit_lines.specs.Names.{macro_name, after_name, is_in, is_variable}

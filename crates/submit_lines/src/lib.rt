@@ -4,7 +4,6 @@
 
 mod amount;
 mod arguments;
-mod blanks;
 mod cut;
 mod items;
 mod line;
@@ -14,7 +13,6 @@ mod queue;
 
 pub use amount::{Amount, AmountUnit, read_amount};
 pub use arguments::{plain_arguments, quoted_arguments};
-pub use blanks::trimmed_text;
 pub use line::{LineFault, SubmitLine, read_line};
 pub use name::is_built_in;
 pub use number::{decimal, integer};

@@ -2,9 +2,8 @@ ghost use Rattle.std.specs.Prelude.{◌≡◌, ◌<◌, length, drop, slice_inde
 ghost use Rattle.std.specs.Option.{option_map};
 ghost use Rattle.submit_lines.specs.Lines.{line_said, value_of, plus_line, attribute_line, plain_line, named_line, ends_at, queue_line, line_of};
 
-use crate::blanks::trimmed_text;
 use crate::name::{cut_name, is_reserved, is_unsupported, past_my};
-use ad_token::{is_blank, is_name};
+use ad_token::{is_blank, is_name, trimmed_text};
 use thiserror::Error;
 
 /// What a line of a submit file says.

@@ -1,10 +1,10 @@
 ghost use Rattle.std.specs.Prelude.{◌≡◌, IfOk};
 ghost use Rattle.submit_lines.specs.Queue.{copies_over, bracketed_items, over_named, counted, queue_of};
 
-use crate::blanks::trimmed_text;
 use crate::items::bracketed_items;
 use crate::name::{cut_name, is_in, is_variable};
 use crate::number::decimal;
+use ad_token::trimmed_text;
 use ad_value::{Memory, Text, TextList};
 use std::alloc::Global;
 

@@ -8,11 +8,11 @@ returns-in_err-digits-clause-only c = λ n rest small begins.
     let none : ⊥ = rw c.in_err-digits.was at cut in
     absurd none
 
-pub returns-in_err-number_of-clause-only : goal.returns-in_err-number_of-clause-only
-returns-in_err-number_of-clause-only c = λ n rest small begins.
+pub returns-in_err-number_in-clause-only : goal.returns-in_err-number_in-clause-only
+returns-in_err-number_in-clause-only c = λ n rest small begins.
     let cut = cut_number c.args.mark n c.args.text.now rest c.split_once.result c.split_once.ensures.cases c.requires.ascii c.requires.no_digit small begins in
     let parts = rw c.in_ok-digits.was at cut in
-    let clash : None ≡ Some n = sym c.in_err-number_of.was ∙ c.number_of.ensures.only n small parts.0 in
+    let clash : None ≡ Some n = sym c.in_err-number_in.was ∙ (c.number_in.ensures n).1 (small, parts.0) in
     let none : ⊥ = cc in
     absurd none
 
@@ -20,5 +20,5 @@ pub returns-clause-only : goal.returns-clause-only
 returns-clause-only c = λ n rest small begins.
     let cut = cut_number c.args.mark n c.args.text.now rest c.split_once.result c.split_once.ensures.cases c.requires.ascii c.requires.no_digit small begins in
     let parts = rw c.in_ok-digits.was at cut in
-    let same : Some c.in_ok-number_of.field-0 ≡ Some n = sym c.in_ok-number_of.was ∙ c.number_of.ensures.only n small parts.0 in
+    let same : Some c.in_ok-number_in.field-0 ≡ Some n = sym c.in_ok-number_in.was ∙ (c.number_in.ensures n).1 (small, parts.0) in
     (cc, parts.1)

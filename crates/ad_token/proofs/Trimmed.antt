@@ -7,17 +7,9 @@ use Rattle.std.proofs.lemmas.List.Sums.{prefix_len_passes, prefix_len-le-length,
 use Rattle.std.proofs.lemmas.List.{get_or-reverse}
 use Rattle.std.proofs.lemmas.Str.{IsCharBoundary-start, IsCharBoundary-end, IsCharBoundary-after_ascii, IsCharBoundary-before_ascii}
 use Rattle.ad_token.specs.Lexing.{is_blank}
-use Rattle.ad_token.specs.Names.{name_length}
-use Rattle.ad_token.proofs.Prefixes as prefixes
 
 blank_ascii : (b : ℕ) → is_blank b ≡ true → b < 128
 blank_ascii b h = grind (arith, nat_tests)
-
-pub name_boundary : (bs : List ℕ) → IsUtf8 bs → IsCharBoundary bs (name_length bs)
-name_boundary = prefixes.name_boundary
-
-pub past_first : (bs : List ℕ) (b : ℕ) → IsUtf8 bs → 0 < length bs → get_or bs 0 0 ≡ b → b < 128 → IsCharBoundary bs 1
-past_first = prefixes.past_first
 
 start_at : (bs : List ℕ) (n : ℕ) → n ≡ prefix_len is_blank bs → IsUtf8 bs → IsCharBoundary bs n
 start_at bs zero e utf8 = IsCharBoundary-start bs utf8
