@@ -3,12 +3,11 @@ ghost use Rattle.std.specs.List.{list_any};
 ghost use Rattle.ad_value.specs.Names.{same_name};
 ghost use Rattle.ad_names.specs.Groups.{pool_names, run_names};
 
-use ad_value::same_name;
-
 use crate::job::JOB_STATUS;
 use crate::pool::{
     EXIT_BY_SIGNAL, EXIT_CODE, EXIT_SIGNAL, HOLD_REASON, LEASE_UNTIL, RUN_CLAIM, RUN_NUMBER,
 };
+use ad_value::same_name;
 
 /// Whether a job has the attribute only while it runs, without memory. Computes in O(1).
 pub fn is_run_name(name: &str) -> bool
