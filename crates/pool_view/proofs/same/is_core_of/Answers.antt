@@ -1,0 +1,20 @@
+use Rattle.std.proofs.Common.{◌≡◌, ◌≤◌, ◌-◌, [], length, drop, refl, sym, ◌∙◌, ap, arith, eq-eqb, length-drop}
+use Rattle.std.proofs.lemmas.Bool.{eqb-true}
+use Rattle.std.proofs.lemmas.List.{drop_all}
+use Rattle.pool_view.specs.Ads.{core_of}
+use Rattle.pool_view.proofs.same.is_core_of.Goals as goal
+
+pub returns : goal.returns
+returns c =
+    let past : length c.args.ad.now ≤ c.loop-own.own = omega arith in
+    let none_left : core_of (drop c.loop-own.own c.args.ad.now) ≡ [] = ap core_of (drop_all c.loop-own.own c.args.ad.now past) in
+    let within : c.loop-own.place ≤ length c.args.core.now = c.loop-own.invariant.0 in (
+      λ is.
+          (let all : c.loop-own.place ≡ c.len-length.result = eqb-true c.loop-own.place c.len-length.result is in
+          let no_more : length c.args.core.now ≤ c.loop-own.place = omega arith in
+          c.loop-own.invariant.1.1 (drop_all c.loop-own.place c.args.core.now no_more ∙ sym none_left)),
+      λ same.
+          (let empty : drop c.loop-own.place c.args.core.now ≡ [] = c.loop-own.invariant.1.0 same ∙ none_left in
+          let rest : length c.args.core.now - c.loop-own.place ≡ 0 = sym (length-drop c.loop-own.place c.args.core.now) ∙ ap length empty in
+          eq-eqb c.loop-own.place c.len-length.result (omega arith)),
+    )

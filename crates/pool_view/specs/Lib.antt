@@ -1,0 +1,6 @@
+pub mod Numbers
+pub mod Ads
+pub mod AbstractPool
+pub mod AbstractStep
+pub mod Safe
+pub mod Views
