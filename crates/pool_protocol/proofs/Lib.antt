@@ -1,0 +1,11 @@
+pub mod Sources
+pub mod Claims
+pub mod Tracked
+pub mod Pending
+pub mod Moves
+pub mod Same
+pub mod SeveralMoves
+pub mod Growing
+pub mod Course
+pub mod Parts
+pub mod Whole

@@ -1,0 +1,5 @@
+pub mod Protocol
+pub mod ProtocolMove
+pub mod Facts
+pub mod SlotPart
+pub mod Course
