@@ -1,35 +1,12 @@
 -- The ads of a load's jobs (HTCondor manual, "Job ClassAd Attributes").
-use Rattle.std.specs.Prelude.{◌≡◌, ◌≤◌, ℕ, zero, suc, ◌+◌, ◌*◌, ◌/◌, ◌%◌, pos, List, [], ◌∷◌, ◌++◌, length, Some, None, codes}
-use Rattle.std.specs.Borrow.{Bor}
-use Rattle.ad_value.specs.Content.{integer, text}
+use Rattle.std.specs.Prelude.{◌≡◌, ◌≤◌, ℕ, zero, suc, ◌+◌, ◌*◌, ◌/◌, ◌%◌, List, [], ◌∷◌, ◌++◌, length, Some, None, codes}
 use Rattle.ad_names.specs.declared.job.TheConstants.{ARGS, CLUSTER_ID, CMD, ERR, IN, IWD, JOB_PRIO, JOB_STATUS, JOB_UNIVERSE, OUT, OWNER, PROC_ID, Q_DATE, REQUEST_CPUS, REQUEST_DISK, REQUEST_MEMORY}
 use Rattle.ad_names.specs.declared.matching.TheConstants.{RANK, REQUIREMENTS}
 use Rattle.ad_names.specs.declared.pool.TheConstants.{RUN_CLAIM, RUN_NUMBER, LEASE_UNTIL}
-use Rattle.ad_names.specs.declared.slot.TheConstants.{CPUS, DISK, MEMORY}
-use Rattle.ad_tree.specs.declared.operator.BinOp.TheVariants.{And, GreaterEqual}
-use Rattle.ad_tree.specs.declared.operator.Scope.TheVariants.{Bare, Target}
-use Rattle.ad_tree.specs.Ad.{Attributes, lookup, with_attribute}
-use Rattle.ad_tree.specs.Tree.{Tree, literal, reference, chain, no_rests, and_rest}
+use Rattle.ad_rows.specs.Requests.{enough}
+use Rattle.ad_rows.specs.Rows.{integer_literal, text_literal}
+use Rattle.ad_tree.specs.Ad.{Attributes, lookup}
 use Rattle.claim_id.specs.declared.numbers.JobId.{JobId}
-use Rattle.script_plan.specs.declared.load_ads.Given.{Given}
-use Rattle.script_plan.specs.declared.load_ads.Given.TheVariants.{Integer, Text, Enough}
-
-abbrev pub integer_literal : ℕ → Tree
-integer_literal n = literal (integer (pos n))
-
-abbrev pub text_literal : List ℕ → Tree
-text_literal bytes = literal (text bytes)
-
--- TARGET.NAME >= REQUEST
-abbrev pub at_least : List ℕ → List ℕ → Tree
-at_least name request =
-    chain (reference Target name) (and_rest GreaterEqual (reference Bare request) no_rests)
-
--- the other ad has as many processors, MiB of memory and KiB of disk as this one asks for
-abbrev pub enough : Tree
-enough = chain (at_least CPUS.now REQUEST_CPUS.now)
-    (and_rest And (at_least MEMORY.now REQUEST_MEMORY.now)
-    (and_rest And (at_least DISK.now REQUEST_DISK.now) no_rests))
 
 -- the ad of a job that asks for so many MiB
 abbrev pub load_ad : JobId → List ℕ → ℕ → ℕ → Attributes
@@ -77,17 +54,6 @@ unfoldable pub load_ads : ℕ → ℕ → List ℕ → ℕ → ℕ → List Attr
 load_ads number cluster owner now zero = []
 load_ads number cluster owner now (suc jobs) =
     load_ads number cluster owner now jobs ++ job_of_load number cluster owner now jobs ∷ []
-
--- the expression that a row of a table gives
-abbrev pub given_tree : Given → Tree
-given_tree (Integer n) = integer_literal n
-given_tree (Text bytes) = text_literal bytes.now
-given_tree Enough = enough
-
--- the ad with the rows of a table set, one after the other
-abbrev pub with_rows : List (Bor (List ℕ) × Given) → Attributes → Attributes
-with_rows [] ad = ad
-with_rows (r ∷ rs) ad = with_rows rs (with_attribute r.0.now (given_tree r.1) ad)
 
 -- what is asked of a job's ad that is submitted: its numbers, that it is idle and has had no run,
 -- and room for what the pool sets

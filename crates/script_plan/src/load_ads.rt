@@ -1,33 +1,19 @@
 // The ads of a load's jobs.
 
-ghost use Rattle.std.specs.Prelude.{◌≡◌, ◌<◌, ◌≤◌, ◌^◌, [], ℕ, IfOk, All};
-ghost use Rattle.ad_tree.specs.Tree.{tree, reference};
-ghost use Rattle.ad_tree.specs.declared.operator.Scope.{Scope};
-ghost use Rattle.script_plan.specs.Loads.{load_ad, load_ads, memory_of, next_number, at_least, enough, given_tree, with_rows};
+ghost use Rattle.std.specs.Prelude.{◌≡◌, ◌<◌, ◌≤◌, ◌^◌, IfOk};
+ghost use Rattle.script_plan.specs.Loads.{load_ad, load_ads, memory_of, next_number};
 
 use ad_names::job::{
     ARGS, CLUSTER_ID, CMD, ERR, IN, IWD, JOB_PRIO, JOB_STATUS, JOB_UNIVERSE, OUT, OWNER, PROC_ID,
     Q_DATE, REQUEST_CPUS, REQUEST_DISK, REQUEST_MEMORY,
 };
 use ad_names::matching::{RANK, REQUIREMENTS};
-use ad_names::slot::{CPUS, DISK, MEMORY};
-use ad_tree::{Ad, AdList, BinOp, Expr, Rest, RestList, Scope};
-use ad_value::{Memory, Text, Value};
+use ad_rows::{Given, ad_of};
+use ad_tree::{Ad, AdList};
+use ad_value::Memory;
 use claim_id::JobId;
 use pool_outer::LAST_READING;
 use std::alloc::Global;
-
-/// What an attribute is set to: an integer, a string, or that the other ad has what this one asks
-/// for.
-#[derive(Clone, Copy, Debug)]
-pub(crate) enum Given<'a> {
-    Integer(u64),
-    Text(&'a str),
-    Enough,
-}
-
-// An attribute's name, and what it is set to.
-type Row<'a> = (&'a str, Given<'a>);
 
 /// The ads of a load's jobs, which an owner submits at a reading as a cluster. Each job runs
 /// `/bin/true` and asks for from 1 to 256 MiB of memory, as the load's number goes on from job to
@@ -99,79 +85,4 @@ fn load_ad(alloc: Global, job: JobId, owner: &str, now: u64, memory: u64) -> Res
         (REQUEST_DISK, Given::Integer(1024)),
     ];
     ad_of(alloc, &rows)
-}
-
-// The ad with the rows of a table.
-fn ad_of(alloc: Global, rows: &[Row<'_>]) -> Result<Ad, Memory>
-    requires { All (λ r. (n : ℕ) → r.1 ≡ Given.Integer n → n < 2 ^ 63) rows.now }
-    ensures { IfOk result (λ a. a ≡ with_rows rows.now []) }
-{
-    let mut ad = Ad::new(alloc);
-    for (name, given) in rows {
-        let expr = expr_of(alloc, *given)?;
-        if ad.set(alloc, name, expr).is_err() {
-            return Err(Memory);
-        }
-    }
-    Ok(ad)
-}
-
-fn expr_of(alloc: Global, given: Given<'_>) -> Result<Expr, Memory>
-    requires { (n : ℕ) → given ≡ Given.Integer n → n < 2 ^ 63 }
-    ensures { IfOk result (λ e. tree e ≡ given_tree given.entry) }
-{
-    match given {
-        Given::Integer(n) => Ok(Expr::Lit(Value::Int(n as i64))),
-        Given::Text(text) => Ok(Expr::Lit(Value::Str(Text::from_str(alloc, text)?))),
-        Given::Enough => enough(alloc),
-    }
-}
-
-fn reference_to(alloc: Global, scope: Scope, name: &str) -> Result<Expr, Memory>
-    ensures { IfOk result (λ e. tree e ≡ reference scope name.now) }
-{
-    Ok(Expr::Ref {
-        scope,
-        name: Text::from_str(alloc, name)?,
-    })
-}
-
-// TARGET.Cpus >= RequestCpus && TARGET.Memory >= RequestMemory && TARGET.Disk >= RequestDisk
-fn enough(alloc: Global) -> Result<Expr, Memory>
-    ensures { IfOk result (λ e. tree e ≡ enough) }
-{
-    let cpus = at_least(alloc, CPUS, REQUEST_CPUS)?;
-    let memory = at_least(alloc, MEMORY, REQUEST_MEMORY)?;
-    let disk = at_least(alloc, DISK, REQUEST_DISK)?;
-    let mut items = Vec::new(alloc);
-    items.push(Rest {
-        op: BinOp::And,
-        arg: memory,
-    })?;
-    items.push(Rest {
-        op: BinOp::And,
-        arg: disk,
-    })?;
-    let first = Box::new(alloc, cpus)?;
-    Ok(Expr::Chain {
-        first,
-        rest: RestList { items },
-    })
-}
-
-// TARGET.NAME >= REQUEST
-fn at_least(alloc: Global, name: &str, request: &str) -> Result<Expr, Memory>
-    ensures { IfOk result (λ e. tree e ≡ at_least name.now request.now) }
-{
-    let first = Box::new(alloc, reference_to(alloc, Scope::Target, name)?)?;
-    let arg = reference_to(alloc, Scope::Bare, request)?;
-    let mut items = Vec::new(alloc);
-    items.push(Rest {
-        op: BinOp::GreaterEqual,
-        arg,
-    })?;
-    Ok(Expr::Chain {
-        first,
-        rest: RestList { items },
-    })
 }
