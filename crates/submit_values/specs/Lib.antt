@@ -1,4 +1,3 @@
 pub mod Commands
-pub mod Requirements
 pub mod Values
 pub mod JobAds

@@ -5,6 +5,7 @@ use Rattle.std.specs.Prelude.{◌≡◌, ℕ, ◌==◌, ◌&&◌, ◌||◌, ◌%
 use Rattle.std.specs.Str.{bytes_eq}
 use Rattle.ad_value.specs.Content.{integer, text}
 use Rattle.ad_value.specs.Names.{same_name}
+use Rattle.ad_rows.specs.Requests.{enough, with_enough}
 use Rattle.ad_tree.specs.Tree.{Tree, literal}
 use Rattle.ad_tree.specs.ValueTree.{integer_tree}
 use Rattle.ad_parse.specs.declared.error.ParseError.{ParseError}
@@ -21,7 +22,6 @@ use Rattle.submit_values.specs.declared.command.Command.{Command}
 use Rattle.submit_values.specs.declared.command.Command.TheVariants as command
 use Rattle.submit_values.specs.declared.error.ValueError.{ValueError}
 use Rattle.submit_values.specs.declared.error.ValueError.TheVariants as fault
-use Rattle.submit_values.specs.Requirements.{enough, with_enough}
 
 abbrev pub TreeResult : Type 0
 TreeResult = Result Tree ValueError

@@ -5,7 +5,6 @@
 mod command;
 mod error;
 mod job_ad;
-mod requirements;
 mod said;
 mod value;
 

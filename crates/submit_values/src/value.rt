@@ -8,8 +8,8 @@ ghost use Rattle.submit_values.specs.Values.{GivesValue, whole_at, lease_of, amo
 
 use crate::command::Command;
 use crate::error::ValueError;
-use crate::requirements::{enough, with_enough};
 use crate::said::{expression, said_again, string_expression};
+use ad_rows::{enough, with_enough};
 use ad_tree::Expr;
 use ad_value::{Text, Value};
 use std::alloc::Global;
