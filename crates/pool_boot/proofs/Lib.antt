@@ -1,0 +1,3 @@
+pub mod BootLines
+pub mod Largest
+pub mod Newlines

@@ -1,0 +1,2 @@
+pub mod BadNumbers
+pub mod Boots
