@@ -1,0 +1,9 @@
+pub mod Names
+pub mod Configuration
+pub mod Errors
+pub mod Users
+pub mod Settings
+pub mod Lines
+pub mod Laws
+pub mod SoFar
+pub mod Slots
