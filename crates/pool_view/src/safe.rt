@@ -103,8 +103,8 @@ impl View {
 
     // Whether no other run has the run's slot or its number.
     fn is_alone(&self, run: &Run) -> bool
-        ensures { IsTrue result
-            ↔ All (λ other. Shares run.now other → run.now ≡ other) self.now.runs }
+        ensures { IsTrue result ↔ All
+            (λ other. Shares run.now other → run.now ≡ other) self.now.runs }
     {
         self.runs
             .as_slice()
