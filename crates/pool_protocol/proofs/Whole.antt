@@ -11,11 +11,11 @@ use Rattle.pool_view.specs.AbstractPool.{Marks, IsIn}
 use Rattle.pool_view.specs.AbstractStep.{Extend}
 use Rattle.pool_view.specs.Safe.{Safe}
 use Rattle.pool_view.proofs.Members.{in_filter, in_map, map_in, has_some}
-use Rattle.pool_view.proofs.Sameness.{same_slot-true}
+use Rattle.pool_view.proofs.Sameness.{same_slot-true, other_slot}
 use Rattle.pool_protocol.specs.Protocol.{Protocol, marks_with, mark_with_claim, mark_with_number, mark_after_claim, mark_after_boot}
 use Rattle.pool_protocol.specs.ProtocolMove.{ProtocolMove, PassTime, Pend, Commit, Drop, Confirm, TakeOrder, SendLease, HoldClaim, UseNumber, EndClaim, Reboot, StartRun, ExtendRun, StopRun, SayGone, MayMove, MayAll, protocol_after, protocol_after_all}
 use Rattle.pool_protocol.specs.Facts.{Facts}
-use Rattle.pool_protocol.specs.SlotPart.{SlotPart, IsPart, is_of_slot, own_part_after, part_after, part_after_all, part_at, HasParts, ShowsParts}
+use Rattle.pool_protocol.specs.SlotPart.{SlotPart, IsPart, is_of_slot, own_part_after, part_after, part_after_all, part_at, HasParts, ShowsParts, AreDistinct, ArePlaced}
 use Rattle.pool_protocol.proofs.Sources.{RunBefore, run_before}
 use Rattle.pool_protocol.proofs.Claims.{at_slot, held_before}
 use Rattle.pool_protocol.proofs.Moves.{move_good}
@@ -212,3 +212,41 @@ shown p parts has = record {
         let found = part_found slot parts s is in
         let part = has.each s found.0 in
         (ap p.pool.marks (sym found.1) ∙ part.mark, ap p.pool.slots (sym found.1) ∙ part.ad)
+
+-- ---- a pool that has the runs, the marks and the ads of distinct slots has them as parts
+none_found : (s : SlotPart) (parts : List SlotPart) → IsIn s parts → part_at s.slot parts ≡ None → ⊥
+none_found s [] there none = there
+none_found s (t ∷ ts) there none = by_test (same_slot s.slot t.slot) refl none there (none_found s ts)
+  where
+    by_test : (b : Bool) → same_slot s.slot t.slot ≡ b → (if b then Some t else part_at s.slot ts) ≡ None → (s ≡ t) ⊎ IsIn s ts → (IsIn s ts → part_at s.slot ts ≡ None → ⊥) → ⊥
+    by_test true is now place rest = cc
+    by_test false is now (inl same) rest = other_slot s.slot t.slot is (ap (λ x. x.slot) same)
+    by_test false is now (inr later) rest = rest later now
+
+part_at_own : (s : SlotPart) (parts : List SlotPart) → AreDistinct parts → IsIn s parts → part_at s.slot parts ≡ Some s
+part_at_own s parts distinct there = by_part (part_at s.slot parts) refl
+  where
+    by_part : (o : Option SlotPart) → part_at s.slot parts ≡ o → part_at s.slot parts ≡ Some s
+    by_part None is = absurd (none_found s parts there is)
+    by_part (Some t) is = let found = part_found s.slot parts t is in is ∙ ap (λ x. Some x) (distinct t s found.0 there found.1)
+
+pub parts_of_shown : (p : Protocol) (parts : List SlotPart) → AreDistinct parts → ArePlaced parts → ShowsParts p.pool parts → HasParts p parts
+parts_of_shown p parts distinct placed shows = record {
+  each = λ s there. record {
+    mark = shows.marks s.slot ∙ ap (option_map (λ x. x.mark)) (part_at_own s parts distinct there);
+    ad = shows.slots s.slot ∙ ap (option_map (λ x. x.ad)) (part_at_own s parts distinct there);
+    runs = λ r in_runs same. own_run s there r same (runs_out parts r ((shows.runs r).0 in_runs));
+    own = λ r its. (shows.runs r).1 (runs_back parts r (s, there, its));
+    placed = placed s there;
+  };
+  covered = λ r in_runs. covering r (runs_out parts r ((shows.runs r).0 in_runs));
+  others = λ slot none. (shows.marks slot ∙ ap (option_map (λ x. x.mark)) none, shows.slots slot ∙ ap (option_map (λ x. x.ad)) none);
+}
+  where
+    own_run : (s : SlotPart) → IsIn s parts → (r : Run) → r.slot ≡ s.slot → RunOf parts r → s.run ≡ Some r
+    own_run s there r same (t, in_parts, its) =
+        let one : t ≡ s = distinct t s in_parts there (sym (placed t in_parts r its) ∙ same) in
+        ap (λ x. x.run) (sym one) ∙ its
+
+    covering : (r : Run) → RunOf parts r → Covers parts r.slot
+    covering r (t, in_parts, its) = (t, in_parts, sym (placed t in_parts r its))

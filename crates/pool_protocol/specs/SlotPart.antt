@@ -94,3 +94,11 @@ pub record ShowsParts (v : AbstractPool) (parts : List SlotPart) : Type 0 where
   pub runs : SameMembers v.runs (filter_map (λ s. s.run) parts)
   pub marks : (slot : SlotId) → v.marks slot ≡ option_map (λ s. s.mark) (part_at slot parts)
   pub slots : (slot : SlotId) → v.slots slot ≡ option_map (λ s. s.ad) (part_at slot parts)
+
+-- no two parts are of one slot
+abbrev pub AreDistinct : List SlotPart → Type 0
+AreDistinct parts = (s t : SlotPart) → IsIn s parts → IsIn t parts → s.slot ≡ t.slot → s ≡ t
+
+-- the run of each part is in its slot
+abbrev pub ArePlaced : List SlotPart → Type 0
+ArePlaced parts = (s : SlotPart) → IsIn s parts → (r : Run) → s.run ≡ Some r → r.slot ≡ s.slot

@@ -5,12 +5,12 @@ ghost use Rattle.std.specs.Prelude.{◌≡◌, ◌≢◌, ℕ, ◌<◌, List, ma
 ghost use Rattle.claim_id.specs.declared.numbers.ClaimNo.{ClaimNo};
 ghost use Rattle.claim_id.specs.declared.numbers.RunNo.{RunNo};
 ghost use Rattle.pool_view.specs.declared.run.Run.{Run};
-ghost use Rattle.pool_view.specs.AbstractPool.{IsSpent, IsSpentAt};
+ghost use Rattle.pool_view.specs.AbstractPool.{IsIn, IsSpent, IsSpentAt};
 ghost use Rattle.pool_view.specs.Safe.{Safe};
 ghost use Rattle.pool_protocol.specs.Facts.{Facts};
 ghost use Rattle.pool_protocol.specs.Protocol.{HasMark, Holds, HoldsBefore, IsHeldBefore, IsHeldIn, Protocol};
 ghost use Rattle.pool_protocol.specs.ProtocolMove.{HasNoRun, IsFreeFor, IsNotRun, MayAll, MayMove, ProtocolMove, protocol_after, protocol_after_all};
-ghost use Rattle.pool_protocol.specs.SlotPart.{HasParts, IsPart, ShowsParts, SlotPart, is_of_slot, own_part_after, part_after, part_after_all};
+ghost use Rattle.pool_protocol.specs.SlotPart.{AreDistinct, ArePlaced, HasParts, IsPart, ShowsParts, SlotPart, is_of_slot, own_part_after, part_after, part_after_all};
 
 /// A move of a slot changes it as the move says.
 pub fn moves_change_their_slot()
@@ -35,15 +35,18 @@ pub fn slots_stay_parts()
         → HasParts (protocol_after_all p ms) (map (part_after_all ms) parts) }
 {}
 
-/// The pool has the runs, the marks and the ads of its slots.
+/// The pool has the runs, the marks and the ads of its slots; and slots whose runs, marks and ads it
+/// has are parts of its protocol.
 pub fn parts_make_the_pool()
-    ensures { (p : Protocol) (parts : List SlotPart) → HasParts p parts
+    ensures shown { (p : Protocol) (parts : List SlotPart) → HasParts p parts
         → ShowsParts p.pool parts }
+    ensures parts { (p : Protocol) (parts : List SlotPart) → AreDistinct parts
+        → ArePlaced parts → ShowsParts p.pool parts → HasParts p parts }
 {}
 
 /// What a startd's moves want of the protocol is what its slot shows: a claim that is held, and
 /// held with lower numbers, a slot that is free for a claim, a later boot, a run that is spent, a
-/// slot without a run, and a slot with another run.
+/// slot without a run, a slot with another run, and the slot's own run and ad.
 pub fn slots_show_conditions()
     ensures held { (p : Protocol) (s : SlotPart) (claim : ClaimNo) → IsPart p s
         → s.slot ≡ claim.slot → IsHeldIn s.mark claim → Holds p.pool.marks claim }
@@ -63,4 +66,7 @@ pub fn slots_show_conditions()
     ensures other_run { (p : Protocol) (s : SlotPart) (run : RunNo) → IsPart p s
         → s.slot ≡ run.claim.slot → ((r : Run) → s.run ≡ Some r → r.run ≢ run)
         → IsNotRun p.pool run }
+    ensures own_run { (p : Protocol) (s : SlotPart) (r : Run) → IsPart p s → s.run ≡ Some r
+        → IsIn r p.pool.runs }
+    ensures ad { (p : Protocol) (s : SlotPart) → IsPart p s → p.pool.slots s.slot ≡ Some s.ad }
 {}

@@ -25,3 +25,9 @@ returns-clause-no_run c = λ p s part none. free_known p s s.slot part refl none
 
 pub returns-clause-other_run : goal.returns-clause-other_run
 returns-clause-other_run c = not_run_known
+
+pub returns-clause-own_run : goal.returns-clause-own_run
+returns-clause-own_run c = λ p s r part its. part.own r its
+
+pub returns-clause-ad : goal.returns-clause-ad
+returns-clause-ad c = λ p s part. part.ad
