@@ -1,5 +1,6 @@
 use crate::pairs::answer_next;
 use crate::texts::{answer_claim, answer_claim_text, answer_job, answer_job_text};
+use crate::views::answer_safe;
 use cases::{Case, CaseError, read_cases};
 use std::alloc::Global;
 
@@ -19,6 +20,7 @@ fn answer(alloc: Global, case: Case<'_>, out: &mut String) -> Result<(), CaseErr
         "claim-text" => answer_claim_text(alloc, case, out),
         "job" => answer_job(alloc, case, out),
         "job-text" => answer_job_text(alloc, case, out),
+        "safe" => answer_safe(alloc, case, out),
         _ => Err(CaseError::Kind { line: case.line }),
     }
 }

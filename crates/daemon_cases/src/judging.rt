@@ -1,0 +1,30 @@
+ghost use Rattle.std.specs.Prelude.{◌≡◌, ◌<◌};
+
+use ad_eval::{Judged, Steps, judge};
+use ad_tree::Ad;
+use ad_value::Memory;
+use std::alloc::Global;
+use std::marker::Brand;
+use std::sync::ledger::{Blank, Ledger};
+
+// The moment at which pairs are judged.
+const READING: u64 = 1;
+
+/// The match of a job and a slot. Its step is counted for itself.
+pub(crate) fn judge_pair(alloc: Global, job: &Ad, slot: &Ad) -> Result<Option<Judged>, Memory> {
+    judge_counted::<Brand>(alloc, job, slot, Blank::new(1))
+}
+
+fn judge_counted<L: Ledger>(
+    alloc: Global,
+    job: &Ad,
+    slot: &Ad,
+    blank: Blank,
+) -> Result<Option<Judged>, Memory>
+    requires name { blank.name ≡ L.name }
+    requires parts { blank.parts ≡ L.parts }
+    requires some { 0 < blank.parts }
+{
+    let mut steps = Steps::<L>::new(blank);
+    judge(alloc, job, slot, READING, &mut steps)
+}
