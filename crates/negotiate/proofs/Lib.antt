@@ -1,0 +1,12 @@
+pub mod Members
+pub mod Growing
+pub mod Turning
+pub mod Ending
+pub mod Idle
+pub mod Sound
+pub mod Choices
+pub mod Spins
+pub mod Cycles
+pub mod Order
+pub mod Openings
+pub mod Snapshots
