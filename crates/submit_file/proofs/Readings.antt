@@ -7,8 +7,8 @@ use Rattle.line_text.specs.Lines.{logical_lines}
 use Rattle.submit_lines.specs.declared.line.LineFault.{LineFault}
 use Rattle.submit_lines.specs.declared.line.SubmitLine.{SubmitLine}
 use Rattle.submit_lines.specs.declared.queue.Queue.{Queue}
-use Rattle.submit_lines.specs.Lines as said
-use Rattle.submit_lines.specs.Lines.{LineResult, line_said, line_of}
+use Rattle.submit_lines.specs.Lines as meaning
+use Rattle.submit_lines.specs.Lines.{LineResult, line_result_of, line_of}
 use Rattle.submit_lines.specs.Queue.{queue_of}
 use Rattle.submit_file.specs.declared.error.SubmitError.{SubmitError}
 use Rattle.submit_file.specs.declared.file.FileSoFar.{FileSoFar}
@@ -43,10 +43,10 @@ statement_taken h f new n s x q (Err e) rep is taken =
 
 -- ---- a line
 
-pub said_of : (r g : Result SubmitLine LineFault) (t u : List ℕ) → line_said r ≡ line_of t → t ≡ u → r ≡ g → line_of u ≡ line_said g
-said_of r g t u e at is = ap line_of (sym at) ∙ sym e ∙ ap line_said is
+pub line_is : (r g : Result SubmitLine LineFault) (t u : List ℕ) → line_result_of r ≡ line_of t → t ≡ u → r ≡ g → line_of u ≡ line_result_of g
+line_is r g t u e at is = ap line_of (sym at) ∙ sym e ∙ ap line_result_of is
 
-pub name_taken : (h : Common) (f new : FileSoFar) (l : Line) (x v : List ℕ) → line_of l.text ≡ Ok (said.setting x v) → new ≡ with_name x v l.number f → TakesLines h (l ∷ []) f new (Ok tt)
+pub name_taken : (h : Common) (f new : FileSoFar) (l : Line) (x v : List ℕ) → line_of l.text ≡ Ok (meaning.setting x v) → new ≡ with_name x v l.number f → TakesLines h (l ∷ []) f new (Ok tt)
 name_taken h f new l x v is e = λ rest r more. sets is (subst (λ f. Reads h rest f r) e more)
 
 abbrev pub with_own_lines : List Setting → FileSoFar → FileSoFar
@@ -56,10 +56,10 @@ with_own_lines a f = record {
   ads = f.ads;
 }
 
-pub attribute_taken : (h : Common) (f : FileSoFar) (a : List Setting) (l : Line) (x v : List ℕ) → line_of l.text ≡ Ok (said.attribute x v) → a ≡ with_setting x v l.number f.lines.attributes → TakesLines h (l ∷ []) f (with_own_lines a f) (Ok tt)
+pub attribute_taken : (h : Common) (f : FileSoFar) (a : List Setting) (l : Line) (x v : List ℕ) → line_of l.text ≡ Ok (meaning.attribute x v) → a ≡ with_setting x v l.number f.lines.attributes → TakesLines h (l ∷ []) f (with_own_lines a f) (Ok tt)
 attribute_taken h f a l x v is e = λ rest r more. sets_attribute is (subst (λ a. Reads h rest (with_own_lines a f) r) e more)
 
-pub queue_taken : (h : Common) (f new : FileSoFar) (l : Line) (q : List ℕ) (r : Result (Unit {0}) SubmitError) → line_of l.text ≡ Ok (said.queue q) → UnlessMemory (TakesQueue (Queues h f l.number q) f new) r → UnlessMemory (TakesLines h (l ∷ []) f new) r
+pub queue_taken : (h : Common) (f new : FileSoFar) (l : Line) (q : List ℕ) (r : Result (Unit {0}) SubmitError) → line_of l.text ≡ Ok (meaning.queue q) → UnlessMemory (TakesQueue (Queues h f l.number q) f new) r → UnlessMemory (TakesLines h (l ∷ []) f new) r
 queue_taken h f new l q (Ok x) is taken = λ rest r more. queues is taken.0 (subst (λ f. Reads h rest f r) taken.1 more)
 queue_taken h f new l q (Err e) is taken =
     unless_map (TakesQueue (Queues h f l.number q) f new) (TakesLines h (l ∷ []) f new) e (λ g rest. refuses_queue is g) taken

@@ -20,7 +20,7 @@ use Rattle.submit_file.specs.declared.setting.Setting.{Setting}
 use Rattle.submit_file.specs.Settings.{setting_of}
 use Rattle.submit_values.specs.declared.command.Command.{Command}
 use Rattle.submit_values.specs.Commands.{command_name, attribute_name}
-use Rattle.submit_values.specs.Values.{value_at, preset_at, string_at, said_by}
+use Rattle.submit_values.specs.Values.{value_at, preset_at, string_at, tree_of_text}
 use Rattle.line_text.specs.Macros.{Macros}
 
 pub on_ok : {X E P Q : Type 0} (r : Result X E) → OnOk r P → (P → Q) → OnOk r Q
@@ -102,7 +102,7 @@ chain_command f t n cs i old mid g c l e step more =
 pub last_command : (f : LinesSoFar) (t : Macros) (n : ℕ) (cs : List Command) (i : ℕ) (d : JobDraft) → length cs ≤ i → TakesCommands f t n (drop i cs) d d
 last_command f t n cs i d l = subst (λ l. TakesCommands f t n l d d) (sym (drop_all i cs l)) commands_end
 
-pub chain_attribute : (t : Macros) (n : ℕ) (ss : List Setting) (i : ℕ) (old mid g : JobDraft) (s : Setting) → i < length ss → s ≡ get_or ss i s → Takes t n (λ x. s.name) (λ x. some_of (said_by x)) s old mid → TakesAttributes t n (drop (i + 1) ss) mid g → TakesAttributes t n (drop i ss) old g
+pub chain_attribute : (t : Macros) (n : ℕ) (ss : List Setting) (i : ℕ) (old mid g : JobDraft) (s : Setting) → i < length ss → s ≡ get_or ss i s → Takes t n (λ x. s.name) (λ x. some_of (tree_of_text x)) s old mid → TakesAttributes t n (drop (i + 1) ss) mid g → TakesAttributes t n (drop i ss) old g
 chain_attribute t n ss i old mid g s l e step more =
     let one : i + 1 ≡ suc i = omega arith in
     subst (λ l. TakesAttributes t n l old g) (sym (drop-cons ss i s l ∙ ap (λ s. s ∷ drop (suc i) ss) (sym e)))

@@ -12,7 +12,7 @@ use Rattle.line_text.specs.Macros.{Macros, with_macro}
 use Rattle.submit_lines.specs.declared.line.LineFault.{LineFault}
 use Rattle.submit_lines.specs.declared.queue.Queue.{Queue}
 use Rattle.submit_lines.specs.declared.queue.Over.{Over}
-use Rattle.submit_lines.specs.Lines as said
+use Rattle.submit_lines.specs.Lines as meaning
 use Rattle.submit_lines.specs.Lines.{line_of}
 use Rattle.submit_lines.specs.Names.{is_built_in}
 use Rattle.submit_lines.specs.Queue.{queue_of}
@@ -20,7 +20,7 @@ use Rattle.submit_values.specs.declared.command.Command.{Command}
 use Rattle.submit_values.specs.declared.command.Command.TheVariants as command
 use Rattle.submit_values.specs.declared.error.ValueError.{ValueError}
 use Rattle.submit_values.specs.Commands.{command_name, attribute_name}
-use Rattle.submit_values.specs.Values.{value_at, preset_at, some_of, said_by, string_at}
+use Rattle.submit_values.specs.Values.{value_at, preset_at, some_of, tree_of_text, string_at}
 use Rattle.submit_file.specs.declared.draft.Place.{Place}
 use Rattle.submit_file.specs.declared.error.SubmitError.{SubmitError}
 use Rattle.submit_file.specs.declared.error.SubmitError.TheVariants as error
@@ -109,7 +109,7 @@ pub data TakesCommands (f : LinesSoFar) (t : Macros) (n : ℕ)
 pub data TakesAttributes (t : Macros) (n : ℕ) : List Setting → JobDraft → JobDraft → Type 0 where
   attributes_end : {d : JobDraft} → TakesAttributes t n [] d d
   and_attribute : {s : Setting} {ss : List Setting} {d e g : JobDraft}
-      → Takes t n (λ x. s.name) (λ x. some_of (said_by x)) s d e
+      → Takes t n (λ x. s.name) (λ x. some_of (tree_of_text x)) s d e
       → TakesAttributes t n ss e g → TakesAttributes t n (s ∷ ss) d g
 
 -- in the order of their attributes
@@ -256,17 +256,17 @@ pub data Reads (h : Common) : List Line → FileSoFar → AdsResult → Type 0 w
   refuses : {f : FileSoFar} {l : Line} {ls : List Line} {g : LineFault}
       → line_of l.text ≡ Err g → Reads h (l ∷ ls) f (Err (line_error l.number g))
   sets : {f : FileSoFar} {l : Line} {ls : List Line} {x v : List ℕ} {r : AdsResult}
-      → line_of l.text ≡ Ok (said.setting x v) → Reads h ls (with_name x v l.number f) r
+      → line_of l.text ≡ Ok (meaning.setting x v) → Reads h ls (with_name x v l.number f) r
       → Reads h (l ∷ ls) f r
   sets_attribute : {f : FileSoFar} {l : Line} {ls : List Line} {x v : List ℕ} {r : AdsResult}
-      → line_of l.text ≡ Ok (said.attribute x v)
+      → line_of l.text ≡ Ok (meaning.attribute x v)
       → Reads h ls (with_attribute_line x v l.number f) r → Reads h (l ∷ ls) f r
   refuses_queue : {f : FileSoFar} {l : Line} {ls : List Line} {q : List ℕ} {g : SubmitError}
-      → line_of l.text ≡ Ok (said.queue q) → Queues h f l.number q (Err g)
+      → line_of l.text ≡ Ok (meaning.queue q) → Queues h f l.number q (Err g)
       → Reads h (l ∷ ls) f (Err g)
   queues : {f : FileSoFar} {l : Line} {ls : List Line} {q : List ℕ} {ads : List Attributes}
       {r : AdsResult}
-      → line_of l.text ≡ Ok (said.queue q) → Queues h f l.number q (Ok ads)
+      → line_of l.text ≡ Ok (meaning.queue q) → Queues h f l.number q (Ok ads)
       → Reads h ls (with_ads ads f) r → Reads h (l ∷ ls) f r
 
 -- A part of the lines is taken: what comes of the rest comes of all, and its refusal is that of

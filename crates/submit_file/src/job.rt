@@ -3,7 +3,7 @@ ghost use Rattle.ad_value.specs.Content.{integer, text};
 ghost use Rattle.std.specs.Option.{option_map};
 ghost use Rattle.ad_tree.specs.Tree.{Tree, tree, literal};
 ghost use Rattle.submit_values.specs.declared.error.ValueError.{ValueError};
-ghost use Rattle.submit_values.specs.Values.{GivesValue, some_of, said_by};
+ghost use Rattle.submit_values.specs.Values.{GivesValue, some_of, tree_of_text};
 ghost use Rattle.submit_file.specs.Errors.{UnlessMemory, Replaced};
 ghost use Rattle.submit_file.specs.Drafts.{draft_of};
 ghost use Rattle.submit_file.specs.SubmittedJobs.{common, place_of, Takes, TakesCommand, TakesCommands, TakesAttributes, TakesOwner, Fills, IsJob};
@@ -174,7 +174,8 @@ impl Job<'_> {
         setting: &Setting,
     ) -> Result<(), Memory>
         ensures { OnOk result (Takes
-            self.now.table.now self.now.line (λ x. setting.now.name) (λ x. some_of (said_by x))
+            self.now.table.now self.now.line
+            (λ x. setting.now.name) (λ x. some_of (tree_of_text x))
             setting.now (draft_of draft.old) (draft_of draft.new)) }
     {
         match self.expanded(alloc, setting) {

@@ -13,23 +13,23 @@ use Rattle.submit_lines.specs.Names.{macro_name, after_name, is_reserved, is_uns
 use Rattle.ad_token.specs.Names.{is_name}
 
 -- a name and its value, the same of an attribute's own line, or a queue statement
-pub data Said : Type 0 where
-  setting : List ℕ → List ℕ → Said
-  attribute : List ℕ → List ℕ → Said
-  queue : List ℕ → Said
+pub data LineMeaning : Type 0 where
+  setting : List ℕ → List ℕ → LineMeaning
+  attribute : List ℕ → List ℕ → LineMeaning
+  queue : List ℕ → LineMeaning
 
 abbrev pub LineResult : Type 0
-LineResult = Result Said LineFault
+LineResult = Result LineMeaning LineFault
 
 -- what a line of the program's says
-abbrev pub said : SubmitLine → Said
-said (line.Setting name value) = setting name.now value.now
-said (line.Attribute name value) = attribute name.now value.now
-said (line.Queue text) = queue text.now
+abbrev pub meaning_of : SubmitLine → LineMeaning
+meaning_of (line.Setting name value) = setting name.now value.now
+meaning_of (line.Attribute name value) = attribute name.now value.now
+meaning_of (line.Queue text) = queue text.now
 
-abbrev pub line_said : Result SubmitLine LineFault → LineResult
-line_said (Ok l) = Ok (said l)
-line_said (Err f) = Err f
+abbrev pub line_result_of : Result SubmitLine LineFault → LineResult
+line_result_of (Ok l) = Ok (meaning_of l)
+line_result_of (Err f) = Err f
 
 -- the value after `=`, without blanks at its ends
 abbrev pub value_of : List ℕ → Option (List ℕ)

@@ -1,6 +1,6 @@
 ghost use Rattle.std.specs.Prelude.{◌≡◌, ◌<◌, length, drop, slice_index};
 ghost use Rattle.std.specs.Option.{option_map};
-ghost use Rattle.submit_lines.specs.Lines.{line_said, value_of, plus_line, attribute_line, plain_line, named_line, ends_at, queue_line, line_of};
+ghost use Rattle.submit_lines.specs.Lines.{line_result_of, value_of, plus_line, attribute_line, plain_line, named_line, ends_at, queue_line, line_of};
 
 use crate::name::{cut_name, is_reserved, is_unsupported, past_my};
 use ad_token::{is_blank, is_name, trimmed_text};
@@ -30,7 +30,7 @@ pub enum LineFault {
 
 /// What a line says (HTCondor manual, "Submitting a job"). Computes in O(bytes).
 pub fn read_line(line: &str) -> Result<SubmitLine<'_>, LineFault>
-    ensures { line_said result ≡ line_of line.now }
+    ensures { line_result_of result ≡ line_of line.now }
 {
     let text = trimmed_text(line);
     if text.starts_with('+') {
@@ -64,7 +64,7 @@ fn value_of(text: &str) -> Option<&str>
 }
 
 fn plus_line(text: &str) -> Result<SubmitLine<'_>, LineFault>
-    ensures { line_said result ≡ plus_line text.now }
+    ensures { line_result_of result ≡ plus_line text.now }
 {
     let (name, rest) = cut_name(text);
     match value_of(rest) {
@@ -74,7 +74,7 @@ fn plus_line(text: &str) -> Result<SubmitLine<'_>, LineFault>
 }
 
 fn attribute_line<'a>(name: &'a str, value: &'a str) -> Result<SubmitLine<'a>, LineFault>
-    ensures { line_said result ≡ attribute_line name.now value.now }
+    ensures { line_result_of result ≡ attribute_line name.now value.now }
 {
     if !is_name(name) || is_reserved(name) {
         return Err(LineFault::Bad);
@@ -83,7 +83,7 @@ fn attribute_line<'a>(name: &'a str, value: &'a str) -> Result<SubmitLine<'a>, L
 }
 
 fn named_line<'a>(name: &'a str, value: &'a str) -> Result<SubmitLine<'a>, LineFault>
-    ensures { line_said result ≡ named_line name.now value.now }
+    ensures { line_result_of result ≡ named_line name.now value.now }
 {
     match past_my(name) {
         Some(own) => attribute_line(own, value),
@@ -92,7 +92,7 @@ fn named_line<'a>(name: &'a str, value: &'a str) -> Result<SubmitLine<'a>, LineF
 }
 
 fn plain_line<'a>(name: &'a str, value: &'a str) -> Result<SubmitLine<'a>, LineFault>
-    ensures { line_said result ≡ plain_line name.now value.now }
+    ensures { line_result_of result ≡ plain_line name.now value.now }
 {
     if name.is_empty() {
         return Err(LineFault::Bad);
@@ -105,7 +105,7 @@ fn plain_line<'a>(name: &'a str, value: &'a str) -> Result<SubmitLine<'a>, LineF
 
 // A line without a sign is a queue statement, or of no form.
 fn queue_line<'a>(name: &str, text: &'a str) -> Result<SubmitLine<'a>, LineFault>
-    ensures { line_said result ≡ queue_line name.now text.now }
+    ensures { line_result_of result ≡ queue_line name.now text.now }
 {
     if name.eq_ignore_ascii_case("queue") && ends_at(text.as_bytes(), name.len()) {
         Ok(SubmitLine::Queue { text })

@@ -39,16 +39,16 @@ abbrev pub of_reading : Result Tree ParseError → TreeResult
 of_reading (Ok e) = Ok e
 of_reading (Err f) = Err (of_parse f)
 
-abbrev pub said_by : List ℕ → TreeResult
-said_by bs = of_reading (expression_at bs)
+abbrev pub tree_of_text : List ℕ → TreeResult
+tree_of_text bs = of_reading (expression_at bs)
 
 -- An attribute is what its canonical text says. That is above 8,192 bytes, or has a token that
 -- stands too deep, where it says nothing.
-abbrev pub said_again : Tree → TreeResult
-said_again e = said_by (canon e)
+abbrev pub tree_of_canon : Tree → TreeResult
+tree_of_canon e = tree_of_text (canon e)
 
 abbrev pub string_at : List ℕ → TreeResult
-string_at s = said_again (literal (text s))
+string_at s = tree_of_canon (literal (text s))
 
 -- the program
 abbrev pub program_at : List ℕ → TreeResult
@@ -80,15 +80,15 @@ lease_of None = None
 abbrev pub amount_at : Amount → List ℕ → TreeResult
 amount_at (amount.Units n) bs = Ok (literal (integer n))
 amount_at amount.Large bs = Err fault.BadExpr
-amount_at amount.Absent bs = said_by bs
+amount_at amount.Absent bs = tree_of_text bs
 
 -- the user's expression, and what the job asks for
 abbrev pub requirements_of : TreeResult → TreeResult
-requirements_of (Ok e) = said_again (with_enough e)
+requirements_of (Ok e) = tree_of_canon (with_enough e)
 requirements_of (Err f) = Err f
 
 abbrev pub requirements_at : List ℕ → TreeResult
-requirements_at bs = requirements_of (said_by bs)
+requirements_at bs = requirements_of (tree_of_text bs)
 
 -- ---- the commands
 
@@ -105,7 +105,7 @@ expr_at command.JobLeaseDuration bs = whole_at (lease_of (numbers.integer bs))
 expr_at command.Requirements bs = requirements_at bs
 expr_at command.RequestMemory bs = amount_at (amount_of bs Mib) bs
 expr_at command.RequestDisk bs = amount_at (amount_of bs Kib) bs
-expr_at _ bs = said_by bs
+expr_at _ bs = tree_of_text bs
 
 abbrev pub OptionResult : Type 0
 OptionResult = Result (Option Tree) ValueError

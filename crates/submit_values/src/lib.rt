@@ -4,11 +4,11 @@
 
 mod command;
 mod error;
+mod expressions;
 mod job_ad;
-mod said;
 mod value;
 
 pub use command::Command;
 pub use error::ValueError;
+pub use expressions::{expression, string_expression};
 pub use job_ad::{JobAd, MAX_OWN_ATTRIBUTES};
-pub use said::{expression, string_expression};

@@ -8,7 +8,7 @@ ghost use Rattle.submit_values.specs.Values.{GivesValue, whole_at, lease_of, amo
 
 use crate::command::Command;
 use crate::error::ValueError;
-use crate::said::{expression, said_again, string_expression};
+use crate::expressions::{canonical_expression, expression, string_expression};
 use ad_rows::{enough, with_enough};
 use ad_tree::Expr;
 use ad_value::{Text, Value};
@@ -171,5 +171,5 @@ fn requirements(alloc: Global, text: &str) -> Result<Expr, ValueError>
 {
     let expr = expression(alloc, text)?;
     let all = with_enough(alloc, expr)?;
-    said_again(alloc, &all)
+    canonical_expression(alloc, &all)
 }

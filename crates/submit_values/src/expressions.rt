@@ -1,6 +1,6 @@
 ghost use Rattle.std.specs.Prelude.{◌≡◌};
 ghost use Rattle.ad_tree.specs.Tree.{tree};
-ghost use Rattle.submit_values.specs.Values.{GivesValue, of_parse, said_by, said_again, string_at};
+ghost use Rattle.submit_values.specs.Values.{GivesValue, of_parse, tree_of_text, tree_of_canon, string_at};
 
 use crate::error::ValueError;
 use ad_parse::{ParseError, parse_expr, print_expr};
@@ -10,7 +10,7 @@ use std::alloc::Global;
 
 /// The expression that a text says. Computes in O(bytes of the text and of its canonical text).
 pub fn expression(alloc: Global, text: &str) -> Result<Expr, ValueError>
-    ensures { GivesValue tree result (said_by text.now) }
+    ensures { GivesValue tree result (tree_of_text text.now) }
 {
     match parse_expr(alloc, text) {
         Ok(expr) => Ok(expr),
@@ -36,13 +36,13 @@ pub fn string_expression(alloc: Global, text: &str) -> Result<Expr, ValueError>
 {
     let text = Text::from_str(alloc, text)?;
     let expr = Expr::Lit(Value::Str(text));
-    said_again(alloc, &expr)
+    canonical_expression(alloc, &expr)
 }
 
 /// What the canonical text of an expression says, if it is neither too long nor nested too deep.
 /// Computes in O(bytes of the canonical text).
-pub(crate) fn said_again(alloc: Global, expr: &Expr) -> Result<Expr, ValueError>
-    ensures { GivesValue tree result (said_again (tree expr.now)) }
+pub(crate) fn canonical_expression(alloc: Global, expr: &Expr) -> Result<Expr, ValueError>
+    ensures { GivesValue tree result (tree_of_canon (tree expr.now)) }
 {
     let text = print_expr(alloc, expr)?;
     expression(alloc, text.as_str())
