@@ -1,11 +1,13 @@
 -- Jobs that are made one after the other.
 use Rattle.std.proofs.Common.{◌≡◌, ℕ, zero, suc, ◌+◌, ◌-◌, ◌<◌, List, [], ◌∷◌, ◌++◌, length, get_or, take, drop, flat_map, append_assoc, replicate, Option, Some, Result, Ok, Err, refl, ap, sym, ◌∙◌, subst, arith}
+use Rattle.std.specs.Prelude.{decimal}
 use Rattle.ad_tree.specs.Ad.{Attributes}
+use Rattle.line_text.specs.Macros.{Macros}
 use Rattle.submit_file.specs.declared.error.SubmitError.{SubmitError}
 use Rattle.submit_file.specs.declared.error.SubmitError.TheVariants as error
 use Rattle.submit_file.specs.declared.file.LinesSoFar.{LinesSoFar}
 use Rattle.submit_file.specs.Errors.{UnlessMemory}
-use Rattle.submit_file.specs.SubmittedJobs.{Common, with_numbers, with_item, IsJob, MakesJobs, stops, and_job, AddsJobs, over_items}
+use Rattle.submit_file.specs.SubmittedJobs.{Common, job_macros, IsJob, MakesJobs, stops, and_job, AddsJobs, over_items}
 
 pub unless_map : {X Y : Type 0} (P : Result X SubmitError → Type 0) (Q : Result Y SubmitError → Type 0) (e : SubmitError) → (P (Err e) → Q (Err e)) → UnlessMemory P (Err e) → UnlessMemory Q (Err e)
 unless_map P Q error.Memory f h = tt
@@ -19,11 +21,20 @@ unless_map P Q (error.Full n) f h = f h
 unless_map P Q (error.Macro n g) f h = f h
 unless_map P Q error.NoQueue f h = f h
 
-pub add_ok : (h : Common) (f : LinesSoFar) (n : ℕ) (i : Option (List ℕ × List ℕ)) (old new : List Attributes) (ad : Attributes) → IsJob h f (with_numbers (length old) (with_item i f.table)) (length old) n (Ok ad) → new ≡ old ++ ad ∷ [] → AddsJobs h f n (i ∷ []) old new (Ok tt)
+add_ok : (h : Common) (f : LinesSoFar) (n : ℕ) (i : Option (List ℕ × List ℕ)) (old new : List Attributes) (ad : Attributes) → IsJob h f (job_macros (decimal (length old)) i f.table) (length old) n (Ok ad) → new ≡ old ++ ad ∷ [] → AddsJobs h f n (i ∷ []) old new (Ok tt)
 add_ok h f n i old new ad job e = λ rest r more. and_job job (subst (λ ads. MakesJobs h f n rest ads r) e more)
 
-pub add_err : (h : Common) (f : LinesSoFar) (n : ℕ) (i : Option (List ℕ × List ℕ)) (old new : List Attributes) (e : SubmitError) → UnlessMemory (IsJob h f (with_numbers (length old) (with_item i f.table)) (length old) n) (Err e) → UnlessMemory (AddsJobs h f n (i ∷ []) old new) (Err e)
-add_err h f n i old new e = unless_map (IsJob h f (with_numbers (length old) (with_item i f.table)) (length old) n) (AddsJobs h f n (i ∷ []) old new) e (λ job rest. stops job)
+add_err : (h : Common) (f : LinesSoFar) (n : ℕ) (i : Option (List ℕ × List ℕ)) (old new : List Attributes) (e : SubmitError) → UnlessMemory (IsJob h f (job_macros (decimal (length old)) i f.table) (length old) n) (Err e) → UnlessMemory (AddsJobs h f n (i ∷ []) old new) (Err e)
+add_err h f n i old new e = unless_map (IsJob h f (job_macros (decimal (length old)) i f.table) (length old) n) (AddsJobs h f n (i ∷ []) old new) e (λ job rest. stops job)
+
+-- the same, in the words of a job's macros and number
+pub job_ok : (h : Common) (f : LinesSoFar) (n : ℕ) (i : Option (List ℕ × List ℕ)) (old new : List Attributes) (ad : Attributes) (t : Macros) (proc : ℕ) → proc ≡ length old → t ≡ job_macros (decimal proc) i f.table → IsJob h f t proc n (Ok ad) → new ≡ old ++ ad ∷ [] → AddsJobs h f n (i ∷ []) old new (Ok tt)
+job_ok h f n i old new ad t proc many is job =
+    add_ok h f n i old new ad (subst (λ p. IsJob h f (job_macros (decimal p) i f.table) p n (Ok ad)) many (subst (λ t. IsJob h f t proc n (Ok ad)) is job))
+
+pub job_err : (h : Common) (f : LinesSoFar) (n : ℕ) (i : Option (List ℕ × List ℕ)) (old new : List Attributes) (e : SubmitError) (t : Macros) (proc : ℕ) → proc ≡ length old → t ≡ job_macros (decimal proc) i f.table → UnlessMemory (IsJob h f t proc n) (Err e) → UnlessMemory (AddsJobs h f n (i ∷ []) old new) (Err e)
+job_err h f n i old new e t proc many is job =
+    add_err h f n i old new e (subst (λ p. UnlessMemory (IsJob h f (job_macros (decimal p) i f.table) p n) (Err e)) many (subst (λ t. UnlessMemory (IsJob h f t proc n) (Err e)) is job))
 
 rep : {X : Type 0} (x : X) (rest : List X) (k m c : ℕ) → c ≡ k + (1 + m) → replicate k x ++ (x ∷ (replicate m x ++ rest)) ≡ replicate c x ++ rest
 rep x rest zero m c e =

@@ -1,44 +1,38 @@
 -- What a draft takes.
 use Rattle.std.proofs.Math.Seq.{drop-cons}
-use Rattle.std.proofs.lemmas.List.{drop_all}
-use Rattle.std.proofs.Common.{◌≡◌, ℕ, suc, ◌+◌, ◌<◌, ◌≤◌, ◌∷◌, length, get_or, drop, arith, List, Option, Some, None, Result, Ok, Err, OnOk, codes, [], ap, sym, ◌∙◌, subst, option_map, Bor}
-use Rattle.ad_names.specs.declared.job.TheConstants.{CLUSTER_ID, PROC_ID, OWNER, Q_DATE, JOB_UNIVERSE, JOB_STATUS}
-use Rattle.ad_value.specs.Content.{text}
+use Rattle.std.proofs.lemmas.List.{drop_all, take_more}
+use Rattle.std.proofs.Common.{◌≡◌, ℕ, zero, suc, ◌+◌, ◌<◌, ◌≤◌, false, ◌∷◌, ◌++◌, map, length, get_or, take, drop, append_assoc, arith, List, Option, Some, None, Result, Ok, Err, OnOk, IfOk, [], refl, ap, sym, ◌∙◌, subst, option_map}
+use Rattle.ad_names.specs.declared.job.TheConstants.{CLUSTER_ID, PROC_ID, Q_DATE, JOB_UNIVERSE, JOB_STATUS}
 use Rattle.ad_tree.specs.Ad.{Attributes}
-use Rattle.ad_tree.specs.Tree.{Tree, literal}
+use Rattle.ad_tree.specs.declared.tree.Expr.{Expr}
+use Rattle.ad_tree.specs.Tree.{Tree, tree}
 use Rattle.submit_values.specs.declared.error.ValueError.{ValueError}
 use Rattle.submit_values.specs.declared.error.ValueError.TheVariants as value
-use Rattle.submit_values.specs.Values.{FailsValue, some_of}
+use Rattle.submit_values.specs.Values.{GivesValue, FailsValue, some_of}
+use Rattle.ad_value.specs.declared.memory.Memory.{Memory}
 use Rattle.submit_file.specs.declared.draft.Place.{Place}
-use Rattle.submit_file.specs.Errors.{error_at, IsNoMemory, Replaced, UnlessMemory}
-use Rattle.submit_file.specs.Drafts.{JobDraft, with_given, with_refusal, taken, ad_of}
-use Rattle.submit_file.specs.SubmittedJobs.{Common, place_of, Takes, TakesCommand, TakesOwner, TakesCommands, TakesAttributes, takes, no_command, is_given, no_owner, is_owner, commands_end, and_command, attributes_end, and_attribute, whole, commands, numbered, queued, Fills, fills, nothing, IsJob, is_job}
 use Rattle.submit_file.specs.declared.error.SubmitError.{SubmitError}
 use Rattle.submit_file.specs.declared.error.SubmitError.TheVariants as error
 use Rattle.submit_file.specs.declared.file.LinesSoFar.{LinesSoFar}
+use Rattle.submit_file.specs.declared.plan.Part.{Part}
 use Rattle.submit_file.specs.declared.setting.Setting.{Setting}
-use Rattle.submit_file.specs.Settings.{setting_of}
-use Rattle.submit_values.specs.declared.command.Command.{Command}
-use Rattle.submit_values.specs.Commands.{command_name, attribute_name}
-use Rattle.submit_values.specs.Values.{value_at, preset_at, string_at, tree_of_text}
+use Rattle.submit_file.specs.declared.statement.Contribution.{Contribution}
+use Rattle.submit_file.specs.declared.statement.Contribution.TheVariants as contribution
+use Rattle.submit_file.specs.declared.statement.NamedValue.{NamedValue}
+use Rattle.submit_file.specs.declared.statement.Statement.{Statement}
 use Rattle.line_text.specs.Macros.{Macros}
+use Rattle.submit_file.specs.Errors.{IsNoMemory, Replaced, UnlessMemory}
+use Rattle.submit_file.specs.Drafts.{JobDraft, Effect, named_value, macro_refusal, with_given, with_effect, value_of, ad_of}
+use Rattle.submit_file.specs.Origins.{Origin, owner_command, origin_of, setting_for, name_for, value_for, preset_for}
+use Rattle.submit_file.specs.SubmittedJobs.{Common, common, place_of, effect_at, Gives, nothing_set, is_set, Takes, takes, TakesAll, all_taken, and_takes, whole, commands, origins, numbered, queued, Fills, fills, nothing, IsJob, is_job}
+use Rattle.submit_file.specs.Plans.{effect_of, effect_of_value, value_in, is_memory_value, origins_of, Spares, GivesFor, IsFixedFor, IsPartFor, ArePartsFor}
+use Rattle.submit_file.proofs.Spared.{IsText, replaced_spared}
 
 pub on_ok : {X E P Q : Type 0} (r : Result X E) → OnOk r P → (P → Q) → OnOk r Q
 on_ok (Ok x) p f = f p
 on_ok (Err e) p f = tt
 
-pub takes_some : (x : List ℕ) (p : Place) (d : JobDraft) (g : Result (Option Tree) ValueError) (e : Tree) → g ≡ Ok (Some e) → with_given x e d ≡ taken x p g d
-takes_some x p d g e is = sym (ap (λ g. taken x p g d) is)
-
-pub takes_none : (x : List ℕ) (p : Place) (d : JobDraft) (g : Result (Option Tree) ValueError) → g ≡ Ok None → d ≡ taken x p g d
-takes_none x p d g is = sym (ap (λ g. taken x p g d) is)
-
-pub takes_refusal : (x : List ℕ) (p : Place) (d : JobDraft) (g : Result (Option Tree) ValueError) (f : ValueError) → FailsValue f g → IsNoMemory (error_at f p) → with_refusal (error_at f p) d ≡ taken x p g d
-takes_refusal x p d g value.Memory fails told = cc
-takes_refusal x p d g value.NoExecutable fails told = sym (ap (λ g. taken x p g d) fails)
-takes_refusal x p d g value.Universe fails told = sym (ap (λ g. taken x p g d) fails)
-takes_refusal x p d g value.Quotes fails told = sym (ap (λ g. taken x p g d) fails)
-takes_refusal x p d g value.BadExpr fails told = sym (ap (λ g. taken x p g d) fails)
+-- ---- a value
 
 pub some_fails : (f : ValueError) (g : Result Tree ValueError) → FailsValue f g → FailsValue f (some_of g)
 some_fails value.Memory g fails = tt
@@ -47,9 +41,14 @@ some_fails value.Universe g fails = ap some_of fails
 some_fails value.Quotes g fails = ap some_of fails
 some_fails value.BadExpr g fails = ap some_of fails
 
-pub on_both : {X E P Q R : Type 0} (r : Result X E) → OnOk r P → OnOk r Q → (P → Q → R) → OnOk r R
-on_both (Ok x) p q f = f p q
-on_both (Err e) p q f = tt
+-- what is given is what the definition says, where memory did not run out
+pub value_given : (v : Result (Option Expr) ValueError) (g : Result (Option Tree) ValueError) → is_memory_value v ≡ false → GivesValue (option_map tree) v g → value_of v ≡ g
+value_given (Ok e) g other given = sym given
+value_given (Err value.Memory) g other given = cc
+value_given (Err value.NoExecutable) g other given = sym given
+value_given (Err value.Universe) g other given = sym given
+value_given (Err value.Quotes) g other given = sym given
+value_given (Err value.BadExpr) g other given = sym given
 
 pub told : {X : Type 0} (P : Result X SubmitError → Type 0) (f : SubmitError) → UnlessMemory P (Err f) → IsNoMemory f → P (Err f)
 told P error.Memory h tells = cc
@@ -63,61 +62,96 @@ told P (error.Full n) h tells = h
 told P (error.Macro n g) h tells = h
 told P error.NoQueue h tells = h
 
-pub found : (x y : List ℕ) (ss : List Setting) (r : Option (Bor Setting)) (s : Bor Setting) → option_map (λ s. s.now) r ≡ setting_of x ss → x ≡ y → r ≡ Some s → setting_of y ss ≡ Some s.now
-found x y ss r s e n is = ap (λ x. setting_of x ss) (sym n) ∙ sym e ∙ ap (option_map (λ s. s.now)) is
+-- ---- what is fixed before there is a job
 
-pub none_found : (x y : List ℕ) (ss : List Setting) (r : Option (Bor Setting)) → option_map (λ s. s.now) r ≡ setting_of x ss → x ≡ y → r ≡ None → setting_of y ss ≡ None
-none_found x y ss r e n is = ap (λ x. setting_of x ss) (sym n) ∙ sym e ∙ ap (option_map (λ s. s.now)) is
+abbrev IsValue : Effect → Type 0
+IsValue (named_value x p v) = Unit {0}
+IsValue (macro_refusal f) = ⊥
 
-pub takes_read : (t : Macros) (n : ℕ) (name : List ℕ → List ℕ) (read : List ℕ → Result (Option Tree) ValueError) (s : Setting) (old new : JobDraft) (x nm : List ℕ) (p : Place) → Replaced t s.value s.line (Ok x) → p ≡ place_of s n → nm ≡ name x → new ≡ taken nm p (read x) old → Takes t n name read s old new
-takes_read t n name read s old new x nm p rep place named e =
-    subst (λ d. Takes t n name read s old d) (sym (e ∙ (λ i. taken (named i) (place i) (read x) old))) (takes rep)
+is_text : (o : Origin) (s : Setting) (n : ℕ) (r : Result (List ℕ) SubmitError) → IsValue (effect_at o (place_of s n) r) → IsText r
+is_text o s n (Ok x) is = tt
+is_text o s n (Err f) is = is
 
-pub takes_refused : (t : Macros) (n : ℕ) (name : List ℕ → List ℕ) (read : List ℕ → Result (Option Tree) ValueError) (s : Setting) (old new : JobDraft) (f : SubmitError) → UnlessMemory (Replaced t s.value s.line) (Err f) → new ≡ with_refusal f old → IsNoMemory f → Takes t n name read s old new
-takes_refused t n name read s old new f rep e tells =
-    subst (λ d. Takes t n name read s old d) (sym e) (takes (told (Replaced t s.value s.line) f rep tells))
+gives_spared : (h : Common) (f : LinesSoFar) (t u : Macros) (n : ℕ) (o : Origin) (e : Effect) → Spares t u → Gives h f t n o e → IsValue e → Gives h f u n o e
+gives_spared h f t u n o _ spares (nothing_set none) is = nothing_set none
+gives_spared h f t u n o _ spares (is_set {s = s} {r = r} set h2) is = is_set set (replaced_spared t u spares s.value s.line r h2 (is_text o s n r is))
 
-pub absent_command : (f : LinesSoFar) (t : Macros) (n : ℕ) (c : Command) (old new : JobDraft) (nm : List ℕ) → setting_of (command_name c) f.commands ≡ None → nm ≡ attribute_name c [] → new ≡ taken nm (record { line = n; statement = n }) (preset_at c) old → TakesCommand f t n c old new
-absent_command f t n c old new nm none named e =
-    subst (λ d. TakesCommand f t n c old d) (sym (e ∙ (λ i. taken (named i) (record { line = n; statement = n }) (preset_at c) old))) (no_command none)
+pub fixed_spared : (s : Statement) (t u : Macros) (o : Origin) (c : Contribution) → Spares t u → GivesFor s t o (effect_of c) → IsFixedFor s u o (value_in c)
+fixed_spared s t u o (contribution.Value v) spares gives = gives_spared (common s.heading) s.file.now t u s.line o (effect_of_value v) spares gives tt
+fixed_spared s t u o (contribution.Refusal f) spares gives = tt
 
-pub given_command : (f : LinesSoFar) (t : Macros) (n : ℕ) (c : Command) (old new : JobDraft) (s : Setting) → setting_of (command_name c) f.commands ≡ Some s → Takes t n (attribute_name c) (value_at c) s old new → TakesCommand f t n c old new
-given_command f t n c old new s is h = is_given is h
+-- ---- what a source gives
 
-pub absent_owner : (h : Common) (f : LinesSoFar) (t : Macros) (n : ℕ) (old new : JobDraft) (e : Tree) → setting_of (codes "owner") f.commands ≡ None → e ≡ literal (text h.owner) → new ≡ with_given OWNER.now e old → TakesOwner h f t n old new
-absent_owner h f t n old new e none is m =
-    subst (λ d. TakesOwner h f t n old d) (sym (m ∙ ap (λ e. with_given OWNER.now e old) is)) (no_owner none)
+if_ok : {X E : Type 0} {P Q : X → Type 0} (r : Result X E) → ((x : X) → P x → Q x) → IfOk r P → IfOk r Q
+if_ok (Ok x) f p = f x p
+if_ok (Err e) f p = tt
 
-pub given_owner : (h : Common) (f : LinesSoFar) (t : Macros) (n : ℕ) (old new : JobDraft) (s : Setting) → setting_of (codes "owner") f.commands ≡ Some s → Takes t n (λ x. OWNER.now) (λ x. some_of (string_at x)) s old new → TakesOwner h f t n old new
-given_owner h f t n old new s is m = is_owner is m
+pub set_gives : (s : Statement) (t : Macros) (o : Origin) (g : Setting) (x nm : List ℕ) (p : Place) (r : Result Contribution Memory) → setting_for s.file.now o ≡ Some g → Replaced t g.value g.line (Ok x) → nm ≡ name_for o x → p ≡ place_of g s.line → IfOk r (λ c. effect_of c ≡ named_value nm p (value_for o x)) → IfOk r (λ c. GivesFor s t o (effect_of c))
+set_gives s t o g x nm p r set rep named place =
+    if_ok r (λ c is. subst (GivesFor s t o) (sym (is ∙ (λ i. named_value (named i) (place i) (value_for o x)))) (is_set set rep))
 
--- ---- one more of a list
+pub unset_gives : (s : Statement) (t : Macros) (o : Origin) (nm : List ℕ) (r : Result Contribution Memory) → setting_for s.file.now o ≡ None → nm ≡ name_for o [] → IfOk r (λ c. effect_of c ≡ named_value nm (record { line = s.line; statement = s.line }) (preset_for s.heading.owner.now o)) → IfOk r (λ c. GivesFor s t o (effect_of c))
+unset_gives s t o nm r none named =
+    if_ok r (λ c is. subst (GivesFor s t o) (sym (is ∙ ap (λ x. named_value x (record { line = s.line; statement = s.line }) (preset_for s.heading.owner.now o)) named)) (nothing_set none))
 
-pub chain_command : (f : LinesSoFar) (t : Macros) (n : ℕ) (cs : List Command) (i : ℕ) (old mid g : JobDraft) (c : Command) → i < length cs → c ≡ get_or cs i c → TakesCommand f t n c old mid → TakesCommands f t n (drop (i + 1) cs) mid g → TakesCommands f t n (drop i cs) old g
-chain_command f t n cs i old mid g c l e step more =
+pub refusal_gives : (s : Statement) (t : Macros) (o : Origin) (g : Setting) (f : SubmitError) (r : Result Contribution Memory) → setting_for s.file.now o ≡ Some g → UnlessMemory (Replaced t g.value g.line) (Err f) → IfOk r (λ c. (effect_of c ≡ macro_refusal f) × IsNoMemory f) → IfOk r (λ c. GivesFor s t o (effect_of c))
+refusal_gives s t o g f r set rep =
+    if_ok r (λ c is. subst (GivesFor s t o) (sym is.0) (is_set set (told (Replaced t g.value g.line) f rep is.1)))
+
+pub takes_fixed : (s : Statement) (t : Macros) (p : Part) (v : NamedValue) (old new : JobDraft) → IsPartFor s t p → p.fixed ≡ Some v → new ≡ with_effect (effect_of_value v) old → Takes (common s.heading) s.file.now t s.line (origin_of p.source) old new
+takes_fixed s t p v old new part is e =
+    subst (λ d. Takes (common s.heading) s.file.now t s.line (origin_of p.source) old d) (sym e) (takes (subst (IsFixedFor s t (origin_of p.source)) is part))
+
+pub takes_given : (s : Statement) (t : Macros) (o : Origin) (b c : Contribution) (old new : JobDraft) → GivesFor s t o (effect_of b) → b ≡ c → new ≡ with_effect (effect_of c) old → Takes (common s.heading) s.file.now t s.line o old new
+takes_given s t o b c old new gives is e =
+    subst (λ d. Takes (common s.heading) s.file.now t s.line o old d) (sym e) (takes (subst (λ c. GivesFor s t o (effect_of c)) is gives))
+
+-- ---- parts, one more of them
+
+are_parts-append : (s : Statement) (t : Macros) (ps : List Part) (p : Part) → ArePartsFor s t ps → IsPartFor s t p → ArePartsFor s t (ps ++ p ∷ [])
+are_parts-append s t [] p are is = (is, tt)
+are_parts-append s t (q ∷ ps) p are is = (are.0, are_parts-append s t ps p are.1 is)
+
+origins_of-append : (ps : List Part) (p : Part) → origins_of (ps ++ p ∷ []) ≡ origins_of ps ++ origin_of p.source ∷ []
+origins_of-append [] p = refl
+origins_of-append (q ∷ ps) p = ap (λ l. origin_of q.source ∷ l) (origins_of-append ps p)
+
+-- the origins of the parts, where one was added
+pub origins_more : {X : Type 0} (f : X → Origin) (xs : List X) (i : ℕ) (x : X) (old now new : List Part) (p : Part) → i < length xs → x ≡ get_or xs i x → origins_of now ≡ origins_of old ++ map f (take i xs) → new ≡ now ++ p ∷ [] → origin_of p.source ≡ f x → origins_of new ≡ origins_of old ++ map f (take (i + 1) xs)
+origins_more f xs i x old now new p l at are is from =
+    ap origins_of is ∙ origins_of-append now p
+    ∙ (λ k. are k ++ from k ∷ [])
+    ∙ append_assoc (origins_of old) (map f (take i xs)) (f x ∷ [])
+    ∙ ap (λ l. origins_of old ++ l) (sym (map_append f (take i xs) (x ∷ [])) ∙ ap (map f) (ap (λ x. take i xs ++ x ∷ []) at ∙ sym (take_more xs i x l)))
+  where
+    map_append : {X Y : Type 0} (f : X → Y) (xs ys : List X) → map f (xs ++ ys) ≡ map f xs ++ map f ys
+    map_append f [] ys = refl
+    map_append f (x ∷ xs) ys = ap (λ l. f x ∷ l) (map_append f xs ys)
+
+pub parts_more : (s : Statement) (t : Macros) (now new : List Part) (p : Part) → new ≡ now ++ p ∷ [] → ArePartsFor s t now → IsPartFor s t p → ArePartsFor s t new
+parts_more s t now new p is are part = subst (ArePartsFor s t) (sym is) (are_parts-append s t now p are part)
+
+pub part_at : (s : Statement) (t : Macros) (ps : List Part) (i : ℕ) (p : Part) → i < length ps → p ≡ get_or ps i p → ArePartsFor s t ps → IsPartFor s t p
+part_at s t [] i p l e are = absurd (omega (arith, l))
+part_at s t (q ∷ ps) zero p l e are = subst (IsPartFor s t) (sym e) are.0
+part_at s t (q ∷ ps) (suc i) p l e are = part_at s t ps i p (omega (arith, l)) e are.1
+
+pub chain_part : (h : Common) (f : LinesSoFar) (t : Macros) (n : ℕ) (ps : List Part) (i : ℕ) (old mid g : JobDraft) (p : Part) → i < length ps → p ≡ get_or ps i p → Takes h f t n (origin_of p.source) old mid → TakesAll h f t n (origins_of (drop (i + 1) ps)) mid g → TakesAll h f t n (origins_of (drop i ps)) old g
+chain_part h f t n ps i old mid g p l e step more =
     let one : i + 1 ≡ suc i = omega arith in
-    subst (λ l. TakesCommands f t n l old g) (sym (drop-cons cs i c l ∙ ap (λ c. c ∷ drop (suc i) cs) (sym e)))
-    (and_command step (subst (λ j. TakesCommands f t n (drop j cs) mid g) one more))
+    subst (λ l. TakesAll h f t n (origins_of l) old g) (sym (drop-cons ps i p l ∙ ap (λ p. p ∷ drop (suc i) ps) (sym e)))
+    (and_takes step (subst (λ j. TakesAll h f t n (origins_of (drop j ps)) mid g) one more))
 
-pub last_command : (f : LinesSoFar) (t : Macros) (n : ℕ) (cs : List Command) (i : ℕ) (d : JobDraft) → length cs ≤ i → TakesCommands f t n (drop i cs) d d
-last_command f t n cs i d l = subst (λ l. TakesCommands f t n l d d) (sym (drop_all i cs l)) commands_end
-
-pub chain_attribute : (t : Macros) (n : ℕ) (ss : List Setting) (i : ℕ) (old mid g : JobDraft) (s : Setting) → i < length ss → s ≡ get_or ss i s → Takes t n (λ x. s.name) (λ x. some_of (tree_of_text x)) s old mid → TakesAttributes t n (drop (i + 1) ss) mid g → TakesAttributes t n (drop i ss) old g
-chain_attribute t n ss i old mid g s l e step more =
-    let one : i + 1 ≡ suc i = omega arith in
-    subst (λ l. TakesAttributes t n l old g) (sym (drop-cons ss i s l ∙ ap (λ s. s ∷ drop (suc i) ss) (sym e)))
-    (and_attribute step (subst (λ j. TakesAttributes t n (drop j ss) mid g) one more))
-
-pub last_attribute : (t : Macros) (n : ℕ) (ss : List Setting) (i : ℕ) (d : JobDraft) → length ss ≤ i → TakesAttributes t n (drop i ss) d d
-last_attribute t n ss i d l = subst (λ l. TakesAttributes t n l d d) (sym (drop_all i ss l)) attributes_end
+pub last_part : (h : Common) (f : LinesSoFar) (t : Macros) (n : ℕ) (ps : List Part) (i : ℕ) (d : JobDraft) → length ps ≤ i → TakesAll h f t n (origins_of (drop i ps)) d d
+last_part h f t n ps i d l = subst (λ l. TakesAll h f t n (origins_of l) d d) (sym (drop_all i ps l)) all_taken
 
 -- ---- a job
 
-pub fill_made : (h : Common) (f : LinesSoFar) (t : Macros) (proc n : ℕ) (d0 d1 d2 e q1 q2 q3 g i : JobDraft) (tc tp tq t5 t1 : Tree) (cs : List Command) (ss : List Setting) → cs ≡ commands → ss ≡ f.attributes → tc ≡ whole h.cluster → tp ≡ whole proc → tq ≡ whole h.now → t5 ≡ whole 5 → t1 ≡ whole 1 → d1 ≡ with_given CLUSTER_ID.now tc d0 → d2 ≡ with_given PROC_ID.now tp d1 → TakesOwner h f t n d2 e → q1 ≡ with_given Q_DATE.now tq e → q2 ≡ with_given JOB_UNIVERSE.now t5 q1 → q3 ≡ with_given JOB_STATUS.now t1 q2 → TakesCommands f t n cs q3 g → TakesAttributes t n ss g i → Fills h f t proc n d0 i
-fill_made h f t proc n d0 d1 d2 e q1 q2 q3 g i tc tp tq t5 t1 cs ss all set ec ep eq e5 e1 a1 a2 owned b1 b2 b3 commanded attributed =
+pub fill_made : (h : Common) (f : LinesSoFar) (t : Macros) (proc n : ℕ) (d0 d1 d2 e q1 q2 q3 g : JobDraft) (tc tp tq t5 t1 : Tree) (o : Origin) (os : List Origin) → o ≡ owner_command → os ≡ origins f → tc ≡ whole h.cluster → tp ≡ whole proc → tq ≡ whole h.now → t5 ≡ whole 5 → t1 ≡ whole 1 → d1 ≡ with_given CLUSTER_ID.now tc d0 → d2 ≡ with_given PROC_ID.now tp d1 → Takes h f t n o d2 e → q1 ≡ with_given Q_DATE.now tq e → q2 ≡ with_given JOB_UNIVERSE.now t5 q1 → q3 ≡ with_given JOB_STATUS.now t1 q2 → TakesAll h f t n os q3 g → Fills h f t proc n d0 g
+fill_made h f t proc n d0 d1 d2 e q1 q2 q3 g tc tp tq t5 t1 o os own all ec ep eq e5 e1 a1 a2 owned b1 b2 b3 rest =
     let two : d2 ≡ numbered h proc d0 = a2 ∙ (λ k. with_given PROC_ID.now (ep k) ((a1 ∙ ap (λ t. with_given CLUSTER_ID.now t d0) ec) k)) in
     let three : q3 ≡ queued h e = b3 ∙ (λ k. with_given JOB_STATUS.now (e1 k) ((b2 ∙ (λ k. with_given JOB_UNIVERSE.now (e5 k) ((b1 ∙ ap (λ t. with_given Q_DATE.now t e) eq) k))) k)) in
-    fills (subst (λ d. TakesOwner h f t n d e) two owned) (subst (λ d. TakesCommands f t n commands d g) three (subst (λ cs. TakesCommands f t n cs q3 g) all commanded)) (subst (λ ss. TakesAttributes t n ss g i) set attributed)
+    fills (subst (λ d. Takes h f t n owner_command d e) two (subst (λ o. Takes h f t n o d2 e) own owned)) (subst (λ d. TakesAll h f t n (origins f) d g) three (subst (λ os. TakesAll h f t n os q3 g) all rest))
 
 pub unless : {X : Type 0} (P : Result X SubmitError → Type 0) (r : Result X SubmitError) → P r → UnlessMemory P r
 unless P (Ok x) h = h

@@ -1,6 +1,8 @@
 -- The ad of a job in the making, and the refusal with the least line so far.
 use Rattle.std.specs.Prelude.{ℕ, List, Option, Some, None, Result, Ok, Err}
-use Rattle.ad_tree.specs.Tree.{Tree}
+use Rattle.std.specs.Option.{option_map}
+use Rattle.ad_tree.specs.declared.tree.Expr.{Expr}
+use Rattle.ad_tree.specs.Tree.{Tree, tree}
 use Rattle.ad_tree.specs.Ad.{Attributes}
 use Rattle.submit_values.specs.declared.error.ValueError.{ValueError}
 use Rattle.submit_values.specs.JobAds.{added, finished}
@@ -29,6 +31,20 @@ abbrev pub taken : List ℕ → Place → Result (Option Tree) ValueError → Jo
 taken x p (Ok (Some e)) d = with_given x e d
 taken x p (Ok None) d = d
 taken x p (Err f) d = with_refusal (error_at f p) d
+
+-- what a value is, apart from where it lies in memory
+abbrev pub value_of : Result (Option Expr) ValueError → Result (Option Tree) ValueError
+value_of (Ok e) = Ok (option_map tree e)
+value_of (Err f) = Err f
+
+-- what there is for an attribute: a name and a value, or a refusal of its macros
+pub data Effect : Type 0 where
+  named_value : List ℕ → Place → Result (Option Tree) ValueError → Effect
+  macro_refusal : SubmitError → Effect
+
+abbrev pub with_effect : Effect → JobDraft → JobDraft
+with_effect (named_value x p v) d = taken x p v d
+with_effect (macro_refusal f) d = with_refusal f d
 
 -- the ad, if nothing was refused and there is room
 abbrev pub with_room : ℕ → Option Attributes → Result Attributes SubmitError

@@ -1,9 +1,9 @@
 -- The ads of the jobs that a submit file asks for (HTCondor manual, "Submitting a job").
-use Rattle.std.specs.Prelude.{◌≡◌, ◌<◌, ◌≤◌, ℕ, ◌+◌, ◌*◌, Bool, true, false, pos, List, [], ◌∷◌, ◌++◌, length, codes, replicate, flat_map, decimal, Option, Some, None, Result, Ok, Err}
+use Rattle.std.specs.Prelude.{◌≡◌, ◌<◌, ◌≤◌, ℕ, ◌+◌, ◌*◌, Bool, true, false, pos, List, [], ◌∷◌, ◌++◌, length, map, codes, replicate, flat_map, decimal, Option, Some, None, Result, Ok, Err}
 use Rattle.std.specs.Borrow.{Bor}
-use Rattle.ad_value.specs.Content.{integer, text}
+use Rattle.ad_value.specs.Content.{integer}
 use Rattle.ad_value.specs.Names.{lowercase}
-use Rattle.ad_names.specs.declared.job.TheConstants.{CLUSTER_ID, PROC_ID, OWNER, Q_DATE, JOB_UNIVERSE, JOB_STATUS}
+use Rattle.ad_names.specs.declared.job.TheConstants.{CLUSTER_ID, PROC_ID, Q_DATE, JOB_UNIVERSE, JOB_STATUS}
 use Rattle.ad_tree.specs.Tree.{Tree, literal}
 use Rattle.ad_tree.specs.Ad.{Attributes}
 use Rattle.line_text.specs.declared.logical.Line.{Line}
@@ -17,21 +17,19 @@ use Rattle.submit_lines.specs.Lines.{line_of}
 use Rattle.submit_lines.specs.Names.{is_built_in}
 use Rattle.submit_lines.specs.Queue.{queue_of}
 use Rattle.submit_values.specs.declared.command.Command.{Command}
-use Rattle.submit_values.specs.declared.command.Command.TheVariants as command
-use Rattle.submit_values.specs.declared.error.ValueError.{ValueError}
-use Rattle.submit_values.specs.Commands.{command_name, attribute_name}
-use Rattle.submit_values.specs.Values.{value_at, preset_at, some_of, tree_of_text, string_at}
+use Rattle.submit_values.specs.declared.command.Command.TheVariants as submit
 use Rattle.submit_file.specs.declared.draft.Place.{Place}
 use Rattle.submit_file.specs.declared.error.SubmitError.{SubmitError}
 use Rattle.submit_file.specs.declared.error.SubmitError.TheVariants as error
 use Rattle.submit_file.specs.declared.file.TheConstants.{MAX_JOBS}
 use Rattle.submit_file.specs.declared.file.FileSoFar.{FileSoFar}
 use Rattle.submit_file.specs.declared.file.LinesSoFar.{LinesSoFar}
-use Rattle.submit_file.specs.declared.job.Heading.{Heading}
+use Rattle.submit_file.specs.declared.statement.Heading.{Heading}
 use Rattle.submit_file.specs.declared.setting.Setting.{Setting}
 use Rattle.submit_file.specs.Settings.{with_setting, setting_of}
 use Rattle.submit_file.specs.Errors.{line_error, Replaced}
-use Rattle.submit_file.specs.Drafts.{JobDraft, with_given, with_refusal, taken, ad_of}
+use Rattle.submit_file.specs.Drafts.{JobDraft, Effect, named_value, macro_refusal, with_given, with_effect, ad_of}
+use Rattle.submit_file.specs.Origins.{Origin, owner_command, other_command, own_line, setting_for, name_for, value_for, preset_for}
 
 -- what the ads of a file have in common
 pub record Common : Type 0 where
@@ -48,14 +46,15 @@ common h = record { cluster = h.cluster; owner = h.owner.now; now = h.now }
 abbrev pub with_own : List ℕ → List ℕ → Macros → Macros
 with_own x v t = with_macro (lowercase x) v t
 
-abbrev pub with_numbers : ℕ → Macros → Macros
-with_numbers proc t =
-    with_own (codes "ProcId") (decimal proc) (with_own (codes "Process") (decimal proc) t)
-
 -- the variable of the queue statement and its item, where it has items
 abbrev pub with_item : Option (List ℕ × List ℕ) → Macros → Macros
 with_item None t = t
 with_item (Some i) t = with_own i.0 i.1 t
+
+-- the macros of a job: the variable, and both of its numbers
+abbrev pub job_macros : List ℕ → Option (List ℕ × List ℕ) → Macros → Macros
+job_macros number i t =
+    with_own (codes "ProcId") number (with_own (codes "Process") number (with_item i t))
 
 -- what the program hands on of an item
 abbrev pub item_of : Option (Bor (List ℕ) × Bor (List ℕ)) → Option (List ℕ × List ℕ)
@@ -65,63 +64,48 @@ item_of (Some i) = Some (i.0.now, i.1.now)
 abbrev pub whole : ℕ → Tree
 whole n = literal (integer (pos n))
 
--- what a value gives once its macros are replaced
-abbrev pub taken_at : (List ℕ → List ℕ) → (List ℕ → Result (Option Tree) ValueError)
-    → Place → Result (List ℕ) SubmitError → JobDraft → JobDraft
-taken_at name read p (Ok x) d = taken (name x) p (read x) d
-taken_at name read p (Err f) d = with_refusal f d
-
 abbrev pub place_of : Setting → ℕ → Place
 place_of s n = record { line = s.line; statement = n }
 
--- a setting over a job's macros, at a queue statement in line n
-pub data Takes (t : Macros) (n : ℕ) (name : List ℕ → List ℕ)
-    (read : List ℕ → Result (Option Tree) ValueError) (s : Setting) (d : JobDraft)
+-- what is set for an attribute, once its macros are replaced
+abbrev pub effect_at : Origin → Place → Result (List ℕ) SubmitError → Effect
+effect_at o p (Ok x) = named_value (name_for o x) p (value_for o x)
+effect_at o p (Err f) = macro_refusal f
+
+-- an attribute over a job's macros, at a queue statement in line n
+pub data Gives (h : Common) (f : LinesSoFar) (t : Macros) (n : ℕ) (o : Origin)
+    : Effect → Type 0 where
+  nothing_set : setting_for f o ≡ None
+      → Gives h f t n o
+      (named_value (name_for o []) (record { line = n; statement = n }) (preset_for h.owner o))
+  is_set : {s : Setting} {r : Result (List ℕ) SubmitError} → setting_for f o ≡ Some s
+      → Replaced t s.value s.line r → Gives h f t n o (effect_at o (place_of s n) r)
+
+pub data Takes (h : Common) (f : LinesSoFar) (t : Macros) (n : ℕ) (o : Origin) (d : JobDraft)
     : JobDraft → Type 0 where
-  takes : {r : Result (List ℕ) SubmitError}
-      → Replaced t s.value s.line r
-      → Takes t n name read s d (taken_at name read (place_of s n) r d)
+  takes : {e : Effect} → Gives h f t n o e → Takes h f t n o d (with_effect e d)
 
--- a command, or what its attribute is without it
-pub data TakesCommand (f : LinesSoFar) (t : Macros) (n : ℕ) (c : Command) (d : JobDraft)
-    : JobDraft → Type 0 where
-  no_command : setting_of (command_name c) f.commands ≡ None
-      → TakesCommand f t n c d
-      (taken (attribute_name c []) (record { line = n; statement = n }) (preset_at c) d)
-  is_given : {s : Setting} {e : JobDraft} → setting_of (command_name c) f.commands ≡ Some s
-      → Takes t n (attribute_name c) (value_at c) s d e → TakesCommand f t n c d e
-
-pub data TakesOwner (h : Common) (f : LinesSoFar) (t : Macros) (n : ℕ) (d : JobDraft)
-    : JobDraft → Type 0 where
-  no_owner : setting_of (codes "owner") f.commands ≡ None
-      → TakesOwner h f t n d (with_given OWNER.now (literal (text h.owner)) d)
-  is_owner : {s : Setting} {e : JobDraft} → setting_of (codes "owner") f.commands ≡ Some s
-      → Takes t n (λ x. OWNER.now) (λ x. some_of (string_at x)) s d e
-      → TakesOwner h f t n d e
-
-pub data TakesCommands (f : LinesSoFar) (t : Macros) (n : ℕ)
-    : List Command → JobDraft → JobDraft → Type 0 where
-  commands_end : {d : JobDraft} → TakesCommands f t n [] d d
-  and_command : {c : Command} {cs : List Command} {d e g : JobDraft}
-      → TakesCommand f t n c d e → TakesCommands f t n cs e g → TakesCommands f t n (c ∷ cs) d g
-
--- the lines of attributes, in order of place
-pub data TakesAttributes (t : Macros) (n : ℕ) : List Setting → JobDraft → JobDraft → Type 0 where
-  attributes_end : {d : JobDraft} → TakesAttributes t n [] d d
-  and_attribute : {s : Setting} {ss : List Setting} {d e g : JobDraft}
-      → Takes t n (λ x. s.name) (λ x. some_of (tree_of_text x)) s d e
-      → TakesAttributes t n ss e g → TakesAttributes t n (s ∷ ss) d g
+-- attributes in order of place
+pub data TakesAll (h : Common) (f : LinesSoFar) (t : Macros) (n : ℕ)
+    : List Origin → JobDraft → JobDraft → Type 0 where
+  all_taken : {d : JobDraft} → TakesAll h f t n [] d d
+  and_takes : {o : Origin} {os : List Origin} {d e g : JobDraft}
+      → Takes h f t n o d e → TakesAll h f t n os e g → TakesAll h f t n (o ∷ os) d g
 
 -- in the order of their attributes
 abbrev pub commands : List Command
 commands =
-    command.Executable ∷ command.Arguments ∷ command.Universe
-    ∷ command.InitialDir ∷ command.Input ∷ command.Output ∷ command.Error ∷ command.Log
-    ∷ command.Priority ∷ command.Requirements ∷ command.Rank
-    ∷ command.RequestCpus ∷ command.RequestMemory ∷ command.RequestDisk
-    ∷ command.JobLeaseDuration
-    ∷ command.OnExitHold ∷ command.OnExitRemove
-    ∷ command.PeriodicHold ∷ command.PeriodicRemove ∷ command.PeriodicRelease ∷ []
+    submit.Executable ∷ submit.Arguments ∷ submit.Universe
+    ∷ submit.InitialDir ∷ submit.Input ∷ submit.Output ∷ submit.Error ∷ submit.Log
+    ∷ submit.Priority ∷ submit.Requirements ∷ submit.Rank
+    ∷ submit.RequestCpus ∷ submit.RequestMemory ∷ submit.RequestDisk
+    ∷ submit.JobLeaseDuration
+    ∷ submit.OnExitHold ∷ submit.OnExitRemove
+    ∷ submit.PeriodicHold ∷ submit.PeriodicRemove ∷ submit.PeriodicRelease ∷ []
+
+-- the commands, and the lines of attributes
+abbrev pub origins : LinesSoFar → List Origin
+origins f = map (λ c. other_command c) commands ++ map (λ s. own_line s) f.attributes
 
 abbrev pub numbered : Common → ℕ → JobDraft → JobDraft
 numbered h proc d =
@@ -135,9 +119,8 @@ queued h d =
 -- the attributes of a job, in their order
 pub data Fills (h : Common) (f : LinesSoFar) (t : Macros) (proc n : ℕ) (d : JobDraft)
     : JobDraft → Type 0 where
-  fills : {e g i : JobDraft} → TakesOwner h f t n (numbered h proc d) e
-      → TakesCommands f t n commands (queued h e) g → TakesAttributes t n f.attributes g i
-      → Fills h f t proc n d i
+  fills : {e g : JobDraft} → Takes h f t n owner_command (numbered h proc d) e
+      → TakesAll h f t n (origins f) (queued h e) g → Fills h f t proc n d g
 
 abbrev pub nothing : JobDraft
 nothing = record { ad = Some []; refusal = None }
@@ -167,11 +150,11 @@ pub data MakesJobs (h : Common) (f : LinesSoFar) (n : ℕ)
   jobs_end : {ads : List Attributes} → MakesJobs h f n [] ads (Ok ads)
   stops : {i : Option (List ℕ × List ℕ)} {is : List (Option (List ℕ × List ℕ))}
       {ads : List Attributes} {g : SubmitError}
-      → IsJob h f (with_numbers (length ads) (with_item i f.table)) (length ads) n (Err g)
+      → IsJob h f (job_macros (decimal (length ads)) i f.table) (length ads) n (Err g)
       → MakesJobs h f n (i ∷ is) ads (Err g)
   and_job : {i : Option (List ℕ × List ℕ)} {is : List (Option (List ℕ × List ℕ))}
       {ads : List Attributes} {ad : Attributes} {r : AdsResult}
-      → IsJob h f (with_numbers (length ads) (with_item i f.table)) (length ads) n (Ok ad)
+      → IsJob h f (job_macros (decimal (length ads)) i f.table) (length ads) n (Ok ad)
       → MakesJobs h f n is (ads ++ ad ∷ []) r → MakesJobs h f n (i ∷ is) ads r
 
 -- A part of the jobs is made: what is made of the rest is made of all, and its refusal is one of

@@ -1,12 +1,10 @@
-ghost use Rattle.std.specs.Prelude.{◌≡◌, [], OnOk, Option, Result, Some, None};
-ghost use Rattle.std.specs.Option.{option_map};
-ghost use Rattle.ad_tree.specs.Tree.{Tree, tree};
-ghost use Rattle.submit_values.specs.declared.error.ValueError.{ValueError};
-ghost use Rattle.submit_values.specs.Values.{GivesValue};
+ghost use Rattle.std.specs.Prelude.{◌≡◌, [], OnOk, Some, None};
+ghost use Rattle.ad_tree.specs.Tree.{tree};
 ghost use Rattle.submit_file.specs.Errors.{line_of, is_before, is_memory, error_at, IsNoMemory};
-ghost use Rattle.submit_file.specs.Drafts.{JobDraft, draft_of, with_given, with_refusal, taken, ad_of};
+ghost use Rattle.submit_file.specs.Drafts.{draft_of, with_given, with_refusal, taken, ad_of, value_of};
 
 use crate::error::SubmitError;
+use crate::statement::NamedValue;
 use ad_tree::{Ad, Expr};
 use ad_value::Memory;
 use std::alloc::Global;
@@ -45,22 +43,19 @@ impl Draft {
         self.ad.add(alloc, name, expr)
     }
 
-    /// Takes what a value gives.
-    pub(crate) fn take(
-        &mut self,
-        alloc: Global,
-        name: &str,
-        value: Result<Option<Expr>, ValueError>,
-        place: Place,
-    ) -> Result<(), Memory>
-        // Whatever the value was to give.
-        ensures { (g : Result (Option Tree) ValueError) → GivesValue (option_map tree) value g
-            → OnOk result (draft_of self.new ≡ taken name.now place g (draft_of self.old)) }
+    /// Takes what an attribute is.
+    pub(crate) fn take(&mut self, alloc: Global, named: &NamedValue<'_>) -> Result<(), Memory>
+        ensures { OnOk result (draft_of self.new
+            ≡ taken named.now.name.now named.now.place (value_of named.now.value)
+            (draft_of self.old)) }
     {
-        match value {
-            Ok(Some(expr)) => self.add(alloc, name, expr),
+        match &named.value {
+            Ok(Some(expr)) => {
+                let expr = expr.copy(alloc)?;
+                self.add(alloc, named.name, expr)
+            }
             Ok(None) => Ok(()),
-            Err(error) => self.refuse(error_at(error, place)),
+            Err(error) => self.refuse(error_at(*error, named.place)),
         }
     }
 
@@ -70,7 +65,7 @@ impl Draft {
             draft_of self.new ≡ with_refusal refusal (draft_of self.old)) }
         ensures told { OnOk result (IsNoMemory refusal) }
     {
-        if is_memory(&refusal) {
+        if is_memory_error(&refusal) {
             return Err(Memory);
         }
         if is_before(&refusal, &self.refusal) {
@@ -94,7 +89,8 @@ impl Draft {
     }
 }
 
-fn is_memory(error: &SubmitError) -> bool
+/// Whether a refusal is that memory ran out. Computes in O(1).
+pub(crate) fn is_memory_error(error: &SubmitError) -> bool
     ensures { result ≡ is_memory error.now }
 {
     matches!(error, SubmitError::Memory)

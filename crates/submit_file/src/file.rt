@@ -1,16 +1,17 @@
-ghost use Rattle.std.specs.Prelude.{◌≡◌, ◌≤◌, ◌<◌, ◌^◌, ◌+◌, ◌*◌, [], ◌∷◌, ◌-◌, min, length, replicate, IfOk, OnOk, IsTrue, IsFalse, ◌↔◌};
+ghost use Rattle.std.specs.Prelude.{◌≡◌, ◌≤◌, ◌<◌, ◌^◌, ◌+◌, [], ◌∷◌, ◌-◌, min, length, IfOk, OnOk, IsTrue, IsFalse, ◌↔◌};
 ghost use Rattle.submit_file.specs.Errors.{UnlessMemory, line_error};
-ghost use Rattle.submit_file.specs.SubmittedJobs.{SubmittedJobs, Common, Asks, Queues, Reads, HasProgram, TakesLines, TakesQueue, with_name, begun, common, item_of, with_item, with_numbers, IsJob, AddsJobs, FitsIn, jobs_in, items_of, over_items};
+ghost use Rattle.submit_file.specs.SubmittedJobs.{SubmittedJobs, Common, Asks, Queues, Reads, HasProgram, TakesLines, TakesQueue, with_name, begun, common, AddsJobs, FitsIn, jobs_in, items_of};
+ghost use Rattle.submit_file.specs.Plans.{variable_in, blocked};
 
 use crate::error::SubmitError;
-use crate::job::{Heading, Job};
-use crate::macros::expand_at;
+use crate::macros::{NO_REFERENCE, expand_at, set_job_macros};
 use crate::setting::Settings;
-use ad_tree::{Ad, AdList};
+use crate::statement::{Heading, Statement};
+use ad_tree::AdList;
 use ad_value::{Copied, Memory, Seq};
 use line_text::{Line, MacroTable, lines};
 use std::alloc::Global;
-use submit_lines::{LineFault, Over, Queue, SubmitLine, is_built_in, read_line, read_queue};
+use submit_lines::{LineFault, Queue, SubmitLine, is_built_in, read_line, read_queue};
 
 /// How many jobs one file may ask for.
 pub const MAX_JOBS: usize = 10_000;
@@ -208,6 +209,7 @@ impl FileSoFar {
         queue.copies > max || jobs_in(queue).saturating_add(self.ads.len() as u64) > max
     }
 
+    // Adds the jobs of a queue statement.
     fn add_jobs(
         &mut self,
         alloc: Global,
@@ -223,150 +225,28 @@ impl FileSoFar {
         ensures lines { self.new.lines ≡ self.old.lines }
         ensures queue { self.new.has_queue ≡ self.old.has_queue }
     {
-        match &queue.over {
-            Some(over) => self.add_items(alloc, heading, queue.copies, over, line),
-            None => self.add_copies(alloc, heading, queue.copies, None, line),
-        }
-    }
-
-    fn add_items(
-        &mut self,
-        alloc: Global,
-        heading: Heading<'_>,
-        copies: u64,
-        over: &Over,
-        line: u32,
-    ) -> Result<(), SubmitError>
-        requires reading { heading.now < 2 ^ 63 }
-        requires few { length self.old.ads + copies * length over.now.items ≤ MAX_JOBS }
-        ensures made { UnlessMemory (AddsJobs
-            (common heading.entry) self.old.lines line
-            (over_items copies over.now.variable over.now.items)
-            self.old.ads self.new.ads) result }
-        ensures lines { self.new.lines ≡ self.old.lines }
-        ensures queue { self.new.has_queue ≡ self.old.has_queue }
-    {
-        let variable = over.variable.as_str();
-        for item in over.items.as_slice() {
-            match self.add_copies(
-                alloc,
-                heading,
-                copies,
-                Some((variable, item.as_str())),
-                line,
-            ) {
-                Ok(()) => {}
-                Err(error) => return Err(error),
-            }
-        }
-        Ok(())
-    }
-
-    fn add_copies(
-        &mut self,
-        alloc: Global,
-        heading: Heading<'_>,
-        copies: u64,
-        item: Option<(&str, &str)>,
-        line: u32,
-    ) -> Result<(), SubmitError>
-        requires reading { heading.now < 2 ^ 63 }
-        requires few { length self.old.ads + copies ≤ MAX_JOBS }
-        ensures made { UnlessMemory (AddsJobs
-            (common heading.entry) self.old.lines line (replicate copies (item_of item.entry))
-            self.old.ads self.new.ads) result }
-        ensures count { OnOk result (length self.new.ads ≡ length self.old.ads + copies) }
-        ensures lines { self.new.lines ≡ self.old.lines }
-        ensures queue { self.new.has_queue ≡ self.old.has_queue }
-    {
-        for _ in 0..copies {
-            match self.add_job(alloc, heading, item, line) {
-                Ok(()) => {}
-                Err(error) => return Err(error),
-            }
-        }
-        Ok(())
-    }
-
-    // Adds the next job.
-    fn add_job(
-        &mut self,
-        alloc: Global,
-        heading: Heading<'_>,
-        item: Option<(&str, &str)>,
-        line: u32,
-    ) -> Result<(), SubmitError>
-        requires reading { heading.now < 2 ^ 63 }
-        requires few { length self.old.ads < MAX_JOBS }
-        ensures made { UnlessMemory (AddsJobs
-            (common heading.entry) self.old.lines line (item_of item.entry ∷ [])
-            self.old.ads self.new.ads) result }
-        ensures count { OnOk result (length self.new.ads ≡ length self.old.ads + 1) }
-        ensures lines { self.new.lines ≡ self.old.lines }
-        ensures queue { self.new.has_queue ≡ self.old.has_queue }
-    {
-        match self.job_ad(alloc, heading, item, line) {
-            Ok(ad) => {
-                self.ads.push(ad)?;
-                Ok(())
-            }
-            Err(error) => Err(error),
-        }
-    }
-
-    // The ad of the next job.
-    fn job_ad(
-        &self,
-        alloc: Global,
-        heading: Heading<'_>,
-        item: Option<(&str, &str)>,
-        line: u32,
-    ) -> Result<Ad, SubmitError>
-        requires reading { heading.now < 2 ^ 63 }
-        requires few { length self.now.ads < MAX_JOBS }
-        ensures { UnlessMemory (IsJob (common heading.entry) self.now.lines
-            (with_numbers (length self.now.ads)
-            (with_item (item_of item.entry) self.now.lines.table))
-            (length self.now.ads) line) result }
-    {
-        let proc = self.ads.len() as u32;
-        let table = self.job_table(alloc, item, proc)?;
-        let job = Job {
+        let mut table = self.lines.blocked_table(alloc, queue)?;
+        let statement = Statement {
             heading,
-            proc,
-            line,
             file: &self.lines,
-            table: &table,
+            line,
         };
-        job.ad(alloc)
-    }
-
-    // The file's macros and those of a job.
-    fn job_table(
-        &self,
-        alloc: Global,
-        item: Option<(&str, &str)>,
-        proc: u32,
-    ) -> Result<MacroTable, Memory>
-        ensures { IfOk result (λ t. t
-            ≡ with_numbers proc (with_item (item_of item.entry) self.now.lines.table)) }
-    {
-        let mut table = self.lines.table.copy(alloc)?;
-        set_item(alloc, &mut table, item)?;
-        let number = format!(in alloc; "{proc}")?;
-        table.set(alloc, "Process", number.as_str())?;
-        table.set(alloc, "ProcId", number.as_str())?;
-        Ok(table)
+        statement.add_jobs(alloc, queue, &mut table, &mut self.ads)
     }
 }
 
-// Sets the variable of a queue statement, where it has items.
-fn set_item(alloc: Global, table: &mut MacroTable, item: Option<(&str, &str)>) -> Result<(), Memory>
-    ensures { OnOk result (table.new ≡ with_item (item_of item.entry) table.old) }
-{
-    match item {
-        Some((variable, item)) => table.set(alloc, variable, item),
-        None => Ok(()),
+impl LinesSoFar {
+    // The macros, and those of a job, each of which has no expansion.
+    fn blocked_table(&self, alloc: Global, queue: &Queue) -> Result<MacroTable, Memory>
+        ensures { IfOk result (λ t. t ≡ blocked (variable_in queue.now.over) self.now.table) }
+    {
+        let mut table = self.table.copy(alloc)?;
+        let item = match &queue.over {
+            Some(over) => Some((over.variable.as_str(), NO_REFERENCE)),
+            None => None,
+        };
+        set_job_macros(alloc, &mut table, NO_REFERENCE, item)?;
+        Ok(table)
     }
 }
 

@@ -4,9 +4,12 @@
 mod draft;
 mod error;
 mod file;
-mod job;
+pub mod laws;
 mod macros;
+mod plan;
 mod setting;
+mod source;
+mod statement;
 
 pub use error::SubmitError;
 pub use file::{MAX_JOBS, jobs};

@@ -1,7 +1,9 @@
+ghost use Rattle.std.specs.Prelude.{◌≡◌, OnOk};
 ghost use Rattle.submit_file.specs.Errors.{UnlessMemory, Replaced};
+ghost use Rattle.submit_file.specs.SubmittedJobs.{item_of, job_macros};
 
 use crate::error::SubmitError;
-use ad_value::Text;
+use ad_value::{Memory, Text};
 use line_text::{MacroError, MacroTable, expand};
 use std::alloc::Global;
 
@@ -31,4 +33,26 @@ pub(crate) fn expand_at(
             error: MacroError::TooLong { length },
         }),
     }
+}
+
+/// A value that has no expansion.
+pub(crate) const NO_REFERENCE: &str = "$(";
+
+/// Sets the macros of a job: its number, and the variable of its queue statement, where that has
+/// items. Computes in O(bytes of the item) on average, where names do not collide.
+pub(crate) fn set_job_macros(
+    alloc: Global,
+    table: &mut MacroTable,
+    number: &str,
+    item: Option<(&str, &str)>,
+) -> Result<(), Memory>
+    ensures { OnOk result (
+        table.new ≡ job_macros number.now (item_of item.entry) table.old) }
+{
+    if let Some((variable, item)) = item {
+        table.set(alloc, variable, item)?;
+    }
+    table.set(alloc, "Process", number)?;
+    table.set(alloc, "ProcId", number)?;
+    Ok(())
 }
