@@ -1,0 +1,60 @@
+//! How long the jobs of a submit file take to make.
+//!
+//! `submit_bench N` makes the jobs of a file of thirty commands and `queue N`. It prints how many
+//! there are, and on standard error how many microseconds that took.
+#![tactic(auto)]
+
+use anyhow::{Context, Result};
+use std::env;
+use std::time::Instant;
+use submit_file::jobs;
+
+// Three of the thirty give each job another value.
+const COMMANDS: &str = "\
+executable = /usr/bin/simulate
+arguments = --seed $(Process) --steps 1000 --grid 64x64
+universe = vanilla
+initialdir = /home/alice/runs
+input = grid.txt
+output = out.$(Process)
+error = err.$(Process)
+log = job.log
+priority = 5
+requirements = TARGET.OpSys == \"LINUX\" && TARGET.Arch == \"X86_64\"
+rank = TARGET.Memory + 10 * TARGET.Cpus
+request_cpus = 2
+request_memory = 2G
+request_disk = 10G
+job_lease_duration = 2400
+on_exit_hold = ExitCode =!= 0
+on_exit_remove = ExitBySignal =?= FALSE && ExitCode == 0
+periodic_hold = FALSE
+periodic_remove = time() - QDate > 86400
+periodic_release = FALSE
+owner = alice
+base = /home/alice
+project = climate
+getenv = false
+notification = never
++Project = \"$(project)\"
++Group = \"physics\"
++Worth = 5 * 7
++Base = \"$(base)/$(project)\"
+MY.Paper = 1998
+";
+
+fn main(rt: HostRuntime) -> Result<()> {
+    let count = env::args(&rt)?.nth(1).context("how many jobs?")?;
+    let text = format!(in rt.alloc(); "{COMMANDS}queue {count}\n")?;
+    time(&rt, text.as_str())
+}
+
+fn time(rt: &HostRuntime, text: &str) -> Result<()> {
+    let start = Instant::now(rt)?;
+    let ads = jobs(rt.alloc(), text, 1, "bob", 86_400)?;
+    let micros = start.elapsed(rt)?.as_micros();
+    let count = ads.len();
+    println!(rt; "{count} jobs")?;
+    eprintln!(rt; "{micros} microseconds")?;
+    Ok(())
+}
