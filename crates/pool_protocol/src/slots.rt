@@ -35,8 +35,8 @@ pub fn slots_stay_parts()
         → HasParts (protocol_after_all p ms) (map (part_after_all ms) parts) }
 {}
 
-/// The pool has the runs, the marks and the ads of its slots; and slots whose runs, marks and ads it
-/// has are parts of its protocol.
+/// The pool has the runs, the marks and the ads of its slots; and slots whose runs, marks and ads
+/// it has are parts of its protocol.
 pub fn parts_make_the_pool()
     ensures shown { (p : Protocol) (parts : List SlotPart) → HasParts p parts
         → ShowsParts p.pool parts }
