@@ -6,12 +6,13 @@ use Rattle.pool_view.specs.declared.run.EndReport.{EndReport}
 use Rattle.pool_view.specs.AbstractPool.{AbstractPool, IsIn, IsDead}
 use Rattle.pool_view.specs.AbstractStep.{AbstractStep, view_after}
 use Rattle.pool_protocol.specs.Protocol.{JobRun, Change, Hidden, Submission, OfJob, Removal, Protocol, view_after_all}
-use Rattle.pool_protocol.specs.ProtocolMove.{ProtocolMove, PassTime, Pend, Commit, Drop, Confirm, TakeOrder, SendLease, HoldClaim, UseNumber, EndClaim, Reboot, StartRun, ExtendRun, StopRun, SayGone, MayMove, grants_with, removals_with, steps_of, protocol_after, protocol_after_all, Remembers}
+use Rattle.pool_protocol.specs.ProtocolMove.{ProtocolMove, PassTime, Pend, Commit, Drop, Confirm, TakeOrder, SendLease, HoldClaim, UseNumber, EndClaim, Reboot, StartRun, ExtendRun, StopRun, SayGone, MayMove, MayAll, grants_with, removals_with, steps_of, protocol_after, protocol_after_all, Remembers}
 use Rattle.pool_protocol.specs.Facts.{Facts}
+use Rattle.pool_view.specs.Safe.{Safe}
 use Rattle.pool_view.proofs.Steps.{step_dead}
 use Rattle.pool_protocol.proofs.Pending.{reports_more, ordered_all}
 use Rattle.pool_protocol.proofs.Tracked.{AllBacked}
-use Rattle.pool_protocol.proofs.Moves.{move_backed}
+use Rattle.pool_protocol.proofs.Moves.{move_backed, move_good}
 use Rattle.pool_protocol.proofs.Same.{pool_after_move}
 
 reports_all : (v : AbstractPool) (ks : List AbstractStep) (s : EndReport) → IsIn s v.reports → IsIn s (view_after_all v ks).reports
@@ -72,3 +73,9 @@ dead_all v grants (k ∷ ks) run backed dead = dead_all (view_after v k) (grants
 
 pub move_dead : (p : Protocol) (m : ProtocolMove) (run : RunNo) → Facts p → MayMove p m → IsDead p.pool run → IsDead (protocol_after p m).pool run
 move_dead p m run facts may dead = subst (λ v. IsDead v run) (sym (pool_after_move p m)) (dead_all p.pool p.grants (steps_of p m) run (move_backed p m facts may) dead)
+
+pub moves_dead : (p : Protocol) (ms : List ProtocolMove) (run : RunNo) → Facts p → Safe p.pool → MayAll p ms → IsDead p.pool run → IsDead (protocol_after_all p ms).pool run
+moves_dead p [] run facts safe may dead = dead
+moves_dead p (m ∷ ms) run facts safe may dead =
+    let next = move_good p m facts safe may.0 in
+    moves_dead (protocol_after p m) ms run next.0 next.1 may.1 (move_dead p m run facts may.0 dead)

@@ -40,8 +40,9 @@ pub fn protocols_go_on()
 pub fn moves_take_nothing_back()
     ensures remembered { (p : Protocol) (ms : List ProtocolMove)
         → Remembers p (protocol_after_all p ms) }
-    ensures dead { (p : Protocol) (m : ProtocolMove) (run : RunNo) → Facts p → MayMove p m
-        → IsDead p.pool run → IsDead (protocol_after p m).pool run }
+    ensures dead { (p : Protocol) (ms : List ProtocolMove) (run : RunNo) → Facts p
+        → Safe p.pool → MayAll p ms
+        → IsDead p.pool run → IsDead (protocol_after_all p ms).pool run }
 {}
 
 /// The conditions of the moves can be met: from an opening a job is submitted, granted, started,
