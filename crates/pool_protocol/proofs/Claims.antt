@@ -1,5 +1,5 @@
 -- What a startd does to its slot's mark keeps every spent run spent, and every running run's claim held.
-use Rattle.std.proofs.Common.{◌≡◌, ℕ, ◌<◌, ◌≤◌, ◌⊎◌, inl, inr, Option, Some, None, Bool, true, false, ◌==◌, refl, sym, ◌∙◌, ap, subst, arith, if◌then◌else◌, IfSome, IsSomeAnd}
+use Rattle.std.proofs.Common.{◌≡◌, ℕ, ◌<◌, ◌≤◌, ◌⊎◌, inl, inr, Option, Some, None, Bool, true, false, refl, sym, ◌∙◌, ap, subst, arith, if◌then◌else◌, IfSome, IsSomeAnd}
 use Rattle.std.specs.Prelude.{option_map}
 use Rattle.claim_id.specs.declared.numbers.SlotId.{SlotId}
 use Rattle.claim_id.specs.declared.numbers.RunNo.{RunNo}

@@ -1,10 +1,9 @@
 -- The course meets each move's condition.
-use Rattle.std.proofs.Common.{◌≡◌, ℕ, inl, inr, List, [], ◌∷◌, Some, None, Bool, true, false, refl, arith, if◌then◌else◌, IfSome}
+use Rattle.std.proofs.Common.{◌≡◌, inl, inr, Some, None, Bool, true, false, refl, arith, if◌then◌else◌, IfSome}
 use Rattle.ad_eval.specs.Judgement.{Judgement}
-use Rattle.claim_id.specs.declared.numbers.SlotId.{SlotId}
 use Rattle.pool_view.specs.declared.mark.SlotMark.{SlotMark}
 use Rattle.pool_view.specs.Numbers.{same_slot}
-use Rattle.pool_protocol.specs.Course.{the_slot, the_job, the_run, course_opening, lease_until, course}
+use Rattle.pool_protocol.specs.Course.{the_slot, the_run, course_opening, lease_until, course}
 use Rattle.pool_protocol.specs.Facts.{IsOpening}
 use Rattle.pool_protocol.specs.ProtocolMove.{MayAll}
 

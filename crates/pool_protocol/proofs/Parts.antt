@@ -1,19 +1,18 @@
 -- Each move of a slot leaves it a part of the protocol, changed as the move says; each move
 -- elsewhere leaves it as it is.
-use Rattle.std.proofs.Common.{◌≡◌, ◌≢◌, ℕ, ◌⊎◌, inl, inr, List, [], ◌∷◌, map, filter, max, Option, Some, None, Bool, true, false, true≢false, not, refl, sym, ◌∙◌, ap, subst, if◌then◌else◌, IfSome, IsSomeAnd}
+use Rattle.std.proofs.Common.{◌≡◌, ◌≢◌, ℕ, inl, inr, List, [], ◌∷◌, map, filter, max, Option, Some, None, Bool, true, false, true≢false, not, refl, sym, ◌∙◌, ap, subst, if◌then◌else◌, IfSome, IsSomeAnd}
 use Rattle.std.specs.Prelude.{option_map}
 use Rattle.claim_id.specs.declared.numbers.SlotId.{SlotId}
 use Rattle.claim_id.specs.declared.numbers.RunNo.{RunNo}
-use Rattle.claim_id.specs.declared.numbers.ClaimNo.{ClaimNo}
 use Rattle.pool_mail.specs.declared.end.How.{How}
 use Rattle.pool_view.specs.declared.run.Run.{Run}
 use Rattle.pool_view.specs.declared.mark.SlotMark.{SlotMark}
-use Rattle.pool_view.specs.Numbers.{same_slot, same_run}
+use Rattle.pool_view.specs.Numbers.{same_run}
 use Rattle.pool_view.specs.AbstractPool.{Marks, AbstractPool, IsIn}
 use Rattle.pool_view.specs.AbstractStep.{AbstractStep, Time, Queue, Acknowledge, Order, Grant, Start, Mark, Extend, Stop, Free, Finish, Hold, Release, Lengthen, with_until, view_after}
 use Rattle.pool_view.specs.Safe.{Safe}
 use Rattle.pool_view.proofs.Members.{in_filter, in_map, passes, passing_in, map_in}
-use Rattle.pool_view.proofs.Sameness.{same_slot-true, same_slot-same, same_run-same, same_number, other_slot}
+use Rattle.pool_view.proofs.Sameness.{same_slot-true, same_run-same, same_number, other_slot}
 use Rattle.pool_view.proofs.Steps.{extended_slot}
 use Rattle.pool_protocol.specs.Protocol.{NewJob, Change, Hidden, Submission, OfJob, Removal, Protocol, HasMark, queue_step, view_after_all, pending_steps, marks_with, mark_with_claim, mark_with_number, mark_after_claim, mark_after_boot}
 use Rattle.pool_protocol.specs.ProtocolMove.{ProtocolMove, PassTime, Pend, Commit, Drop, Confirm, TakeOrder, SendLease, HoldClaim, UseNumber, EndClaim, Reboot, StartRun, ExtendRun, StopRun, SayGone, HasNoRun, IsNotRun, MayMove, protocol_after}

@@ -1,14 +1,12 @@
 -- A protocol of the same parts has the same facts; a list of moves keeps them and makes the steps of each move.
-use Rattle.std.proofs.Common.{◌≡◌, ℕ, ◌<◌, ◌≤◌, ◌⊎◌, inl, inr, List, [], ◌∷◌, ◌++◌, Option, Some, None, refl, sym, subst, arith, IfSome, IsSomeAnd}
+use Rattle.std.proofs.Common.{◌≡◌, ℕ, ◌<◌, inl, inr, List, [], ◌∷◌, ◌++◌, Option, Some, None, refl, sym, subst, arith, IfSome, IsSomeAnd}
 use Rattle.claim_id.specs.declared.numbers.JobId.{JobId}
 use Rattle.claim_id.specs.declared.numbers.RunNo.{RunNo}
 use Rattle.pool_view.specs.declared.job.State.{State}
 use Rattle.pool_view.specs.declared.job.Entry.{Entry}
-use Rattle.pool_view.specs.declared.run.Run.{Run}
-use Rattle.pool_view.specs.declared.run.EndReport.{EndReport}
 use Rattle.pool_view.specs.declared.mark.SlotMark.{SlotMark}
-use Rattle.pool_view.specs.declared.job.State.TheVariants.{Idle, Held, Under, Left}
-use Rattle.pool_view.specs.AbstractPool.{Marks, AbstractPool, IsIn, SameMembers, SameView, IsSpent, IsSpentAt, IsDead, Stands, HasCore}
+use Rattle.pool_view.specs.declared.job.State.TheVariants.{Under}
+use Rattle.pool_view.specs.AbstractPool.{AbstractPool, IsIn, SameView, IsSpent, IsSpentAt, IsDead, Stands}
 use Rattle.pool_view.specs.AbstractStep.{AbstractStep, IsLeased, view_after, Takes}
 use Rattle.pool_view.specs.Safe.{IsAccounted, Safe}
 use Rattle.pool_view.proofs.Steps.{takes_safe}

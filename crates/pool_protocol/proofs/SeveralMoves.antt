@@ -1,5 +1,5 @@
 -- The rows of the daemons that make several moves: each move's condition follows from what the daemon saw at the row's beginning.
-use Rattle.std.proofs.Common.{◌≡◌, ◌≢◌, ℕ, ◌<◌, ◌⊎◌, inl, inr, List, [], ◌∷◌, map, Option, Some, None, true, not, refl, sym, ◌∙◌, ap, subst, arith, if◌then◌else◌, IfSome, IsSome, IsSomeAnd}
+use Rattle.std.proofs.Common.{◌≡◌, ℕ, ◌<◌, ◌⊎◌, inl, inr, List, [], ◌∷◌, map, Option, Some, None, true, not, refl, sym, ◌∙◌, ap, subst, arith, if◌then◌else◌, IfSome, IsSome, IsSomeAnd}
 use Rattle.std.specs.Prelude.{option_map}
 use Rattle.claim_id.specs.declared.numbers.JobId.{JobId}
 use Rattle.pool_view.specs.Ads.{Core}

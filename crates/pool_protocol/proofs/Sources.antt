@@ -1,5 +1,5 @@
 -- Of which part of the pool before it the parts of a pool after a step come, and how a lease fares.
-use Rattle.std.proofs.Common.{◌≡◌, ◌≢◌, ℕ, ◌≤◌, ◌⊎◌, inl, inr, List, [], ◌∷◌, Option, Some, None, Bool, true, false, not, max, refl, sym, ◌∙◌, ap, subst, arith, if◌then◌else◌, IsSomeAnd, map}
+use Rattle.std.proofs.Common.{◌≡◌, ◌≢◌, ℕ, ◌≤◌, ◌⊎◌, inl, inr, List, Option, Some, None, Bool, true, false, not, max, refl, sym, ◌∙◌, ap, subst, arith, if◌then◌else◌, IsSomeAnd}
 use Rattle.std.specs.Prelude.{option_map}
 use Rattle.claim_id.specs.declared.numbers.JobId.{JobId}
 use Rattle.claim_id.specs.declared.numbers.RunNo.{RunNo}
@@ -10,7 +10,7 @@ use Rattle.pool_view.specs.declared.run.Run.{Run}
 use Rattle.pool_view.specs.declared.run.EndReport.{EndReport}
 use Rattle.pool_view.specs.declared.job.Outcome.TheVariants.{EndedBy, Removed}
 use Rattle.pool_view.specs.declared.job.State.TheVariants.{Idle, Held, Under, Left, Done}
-use Rattle.pool_view.specs.AbstractPool.{Marks, AbstractPool, IsIn, set, IsDead, Stands}
+use Rattle.pool_view.specs.AbstractPool.{Marks, AbstractPool, IsIn, IsDead, Stands}
 use Rattle.pool_view.specs.AbstractStep.{AbstractStep, Time, Queue, Acknowledge, Order, Grant, Start, Mark, Extend, Stop, Free, Finish, Hold, Release, Lengthen, IsLeased, IsOver, IsWaiting, Allowed, entry_with_state, with_state, with_lease_end, with_until, view_after}
 use Rattle.pool_view.proofs.Members.{in_filter, in_map}
 use Rattle.pool_view.proofs.Steps.{EntryAt, at_state, entry_at, other_state, new_state, queued_other, step_dead}

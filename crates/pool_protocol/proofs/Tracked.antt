@@ -1,5 +1,5 @@
 -- Every abstract step that the protocol makes keeps the facts, the unfinished transaction aside.
-use Rattle.std.proofs.Common.{◌≡◌, ◌≢◌, ℕ, ◌+◌, ◌<◌, ◌≤◌, inl, inr, List, [], ◌∷◌, Option, Some, Bool, true, false, not, refl, sym, ◌∙◌, ap, subst, arith, if◌then◌else◌, filter}
+use Rattle.std.proofs.Common.{◌≡◌, ◌≢◌, ℕ, ◌+◌, ◌<◌, ◌≤◌, inl, inr, List, [], ◌∷◌, Option, Some, true, not, refl, sym, ◌∙◌, ap, subst, arith, filter}
 use Rattle.claim_id.specs.declared.numbers.JobId.{JobId}
 use Rattle.claim_id.specs.declared.numbers.RunNo.{RunNo}
 use Rattle.pool_view.specs.Numbers.{same_run}

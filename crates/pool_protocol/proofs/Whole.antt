@@ -1,6 +1,6 @@
 -- The slots stay parts of the protocol over every move, and from them the runs, the marks and the
 -- ads of the pool follow.
-use Rattle.std.proofs.Common.{◌≡◌, ◌≢◌, ◌⊎◌, inl, inr, List, [], ◌∷◌, map, Option, Some, None, max, Bool, true, false, not, refl, sym, ◌∙◌, ap, subst, if◌then◌else◌, IsSome}
+use Rattle.std.proofs.Common.{◌≡◌, ◌⊎◌, inl, inr, List, [], ◌∷◌, map, Option, Some, None, Bool, true, false, not, refl, sym, ◌∙◌, ap, subst, if◌then◌else◌, IsSome}
 use Rattle.std.specs.Prelude.{option_map}
 use Rattle.std.specs.List.{filter_map, cons_option}
 use Rattle.claim_id.specs.declared.numbers.SlotId.{SlotId}
@@ -17,7 +17,7 @@ use Rattle.pool_protocol.specs.ProtocolMove.{ProtocolMove, PassTime, Pend, Commi
 use Rattle.pool_protocol.specs.Facts.{Facts}
 use Rattle.pool_protocol.specs.SlotPart.{SlotPart, IsPart, is_of_slot, own_part_after, part_after, part_after_all, part_at, HasParts, ShowsParts, AreDistinct, ArePlaced}
 use Rattle.pool_protocol.proofs.Sources.{RunBefore, run_before}
-use Rattle.pool_protocol.proofs.Claims.{at_slot, held_before}
+use Rattle.pool_protocol.proofs.Claims.{at_slot}
 use Rattle.pool_protocol.proofs.Moves.{move_good}
 use Rattle.pool_protocol.proofs.Parts.{of_pending, part_on}
 

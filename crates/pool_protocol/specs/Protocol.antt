@@ -12,7 +12,7 @@ use Rattle.pool_view.specs.declared.mark.HeldClaim.{HeldClaim}
 use Rattle.pool_view.specs.declared.mark.SlotMark.{SlotMark}
 use Rattle.pool_view.specs.declared.job.State.TheVariants.{Idle}
 use Rattle.pool_view.specs.AbstractPool.{Marks, AbstractPool, set}
-use Rattle.pool_view.specs.AbstractStep.{AbstractStep, Queue, Allowed, view_after}
+use Rattle.pool_view.specs.AbstractStep.{AbstractStep, Queue, view_after}
 
 -- a run and the job that it is of
 pub record JobRun : Type 0 where

@@ -1,6 +1,6 @@
 -- A slot as a part of a protocol: what a slot keeps is what the protocol has of it. So a startd
 -- needs no pool, no other slot and no other machine.
-use Rattle.std.specs.Prelude.{◌≡◌, ℕ, Bool, true, false, List, [], ◌∷◌, map, max, Option, Some, None, option_map, if◌then◌else◌}
+use Rattle.std.specs.Prelude.{◌≡◌, ℕ, Bool, false, List, [], ◌∷◌, max, Option, Some, None, option_map, if◌then◌else◌}
 use Rattle.std.specs.List.{filter_map}
 use Rattle.ad_tree.specs.Ad.{Attributes}
 use Rattle.claim_id.specs.declared.numbers.SlotId.{SlotId}
@@ -9,7 +9,7 @@ use Rattle.pool_view.specs.declared.run.Run.{Run}
 use Rattle.pool_view.specs.AbstractPool.{AbstractPool, IsIn, SameMembers}
 use Rattle.pool_view.specs.Numbers.{same_slot}
 use Rattle.pool_protocol.specs.Protocol.{Protocol, mark_with_claim, mark_with_number, mark_after_claim, mark_after_boot}
-use Rattle.pool_protocol.specs.ProtocolMove.{ProtocolMove, PassTime, Pend, Commit, Drop, Confirm, TakeOrder, SendLease, HoldClaim, UseNumber, EndClaim, Reboot, StartRun, ExtendRun, StopRun, SayGone, protocol_after}
+use Rattle.pool_protocol.specs.ProtocolMove.{ProtocolMove, PassTime, Pend, Commit, Drop, Confirm, TakeOrder, SendLease, HoldClaim, UseNumber, EndClaim, Reboot, StartRun, ExtendRun, StopRun, SayGone}
 
 pub record SlotPart : Type 0 where
   pub slot : SlotId
