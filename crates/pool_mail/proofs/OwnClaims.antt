@@ -1,7 +1,6 @@
 -- A startd hears only of claims of its own machine's slots.
-use Rattle.std.proofs.Common.{◌≡◌, ℕ, ◌<◌, zero, suc, List, [], ◌∷◌, Some, arith}
+use Rattle.std.proofs.Common.{◌≡◌, ℕ, zero, suc, [], ◌∷◌, arith}
 use Rattle.std.specs.Prelude.{Contains, IsSomeAnd}
-use Rattle.pool_outer.specs.declared.gate.Daemon.{Daemon}
 use Rattle.pool_outer.specs.declared.gate.Daemon.TheVariants.{Schedd, Startd, Matchmaker}
 use Rattle.claim_id.specs.declared.numbers.ClaimNo.{ClaimNo}
 use Rattle.pool_mail.specs.declared.mail.Mail.{Mail}

@@ -18,7 +18,7 @@ use Rattle.pool_view.specs.Numbers.{same_job, same_run}
 use Rattle.pool_view.specs.AbstractPool.{Marks, AbstractPool, IsIn, set, SameView, IsSpent, IsSpentBy, IsDead, KeepsSpent, Stands, HasCore}
 use Rattle.pool_view.specs.AbstractStep.{AbstractStep, Time, Queue, Acknowledge, Order, Grant, Start, Mark, Extend, Stop, Free, Finish, Hold, Release, Lengthen, IsLeased, IsOver, IsWaiting, MayStart, Allowed, entry_with_state, with_state, with_lease_end, with_until, reports_with, view_after, Takes}
 use Rattle.pool_view.specs.Safe.{IsMatched, IsAccounted, Shares, Competes, HasOneRunPerSlot, HasOneLeasePerJob, AreEndingsSaid, Safe, RunsLeased, RunsSpent}
-use Rattle.pool_view.proofs.Sameness.{same_job-true, same_job-same, other_job, same_number}
+use Rattle.pool_view.proofs.Sameness.{same_job-true, other_job, same_number}
 use Rattle.pool_view.proofs.Members.{in_filter, in_map, has_some}
 
 -- a fact of a job's state, where the state is known

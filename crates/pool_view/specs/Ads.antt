@@ -1,5 +1,5 @@
 -- What a pool knows of ads and of matches.
-use Rattle.std.specs.Prelude.{◌≡◌, ℕ, true, not, List, [], filter}
+use Rattle.std.specs.Prelude.{◌≡◌, true, not, filter}
 use Rattle.std.specs.List.{list_any}
 use Rattle.ad_names.specs.Groups.{pool_names}
 use Rattle.ad_tree.specs.Ad.{Attributes}
