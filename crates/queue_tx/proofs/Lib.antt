@@ -1,0 +1,4 @@
+pub mod Owns
+pub mod Queues
+pub mod Steps
+pub mod Transactions

@@ -1,0 +1,9 @@
+pub mod Operations
+pub mod OperationCode
+pub mod Keys
+pub mod Room
+pub mod Kinds
+pub mod Queues
+pub mod Printable
+pub mod Prepared
+pub mod Laws

@@ -1,0 +1,27 @@
+//! What holds of all transactions, in the words of the subject.
+
+ghost use Rattle.queue_tx.specs.Laws.{HeaderComesFirst, ProcsStandByCluster, SameKeysAreEqual, ChangesItsKey, LeavesOtherKeys, StaysAQueue, SequenceIsOne, RefusesTheFirst};
+
+/// Keys stand in order: the header, then the procs by cluster, then by number.
+pub fn keys_stand_in_order()
+    ensures header { HeaderComesFirst }
+    ensures procs { ProcsStandByCluster }
+    ensures same { SameKeysAreEqual }
+{}
+
+/// An operation changes what stands under its key, and nothing else.
+pub fn operations_change_their_key()
+    ensures its_own { ChangesItsKey }
+    ensures others { LeavesOtherKeys }
+    ensures ordered { StaysAQueue }
+{}
+
+/// Two transactions one after the other do what their operations do in one transaction.
+pub fn sequences_are_transactions()
+    ensures { SequenceIsOne }
+{}
+
+/// A refusal is that of the first operation that can't be done, with its place.
+pub fn the_first_is_refused()
+    ensures { RefusesTheFirst }
+{}
