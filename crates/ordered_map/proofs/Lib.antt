@@ -2,3 +2,4 @@ pub mod Splits
 pub mod Orders
 pub mod Nodes
 pub mod Maps
+pub mod Firsts

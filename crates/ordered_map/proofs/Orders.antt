@@ -61,7 +61,7 @@ module _ {K V : Type 0} {R : K → K → Ordering} (o : IsTotalOrder R) where
 -- ---- what is past a bound
 
 module _ {K : Type 0} {R : K → K → Ordering} (o : IsTotalOrder R) where
-  not_past_below : (start : Bound (Bor K)) (x y : K) → R x y ≡ Less → is_past R start y ≡ false → is_past R start x ≡ false
+  pub not_past_below : (start : Bound (Bor K)) (x y : K) → R x y ≡ Less → is_past R start y ≡ false → is_past R start x ≡ false
   not_past_below (Included least) x y lt h = by (R least.now y) refl h
     where
       by : (r : Ordering) → R least.now y ≡ r → not (is_gt r) ≡ false → not (is_gt (R least.now x)) ≡ false
