@@ -1,12 +1,14 @@
 -- What holds of all transactions.
-use Rattle.std.specs.Prelude.{◌≡◌, ◌<◌, ◌⊎◌, ◌↔◌, ℕ, true, false, List, ◌∷◌, ◌++◌, length, Ok, Err}
+use Rattle.std.specs.Prelude.{◌≡◌, ◌<◌, ◌≤◌, ◌⊎◌, ◌↔◌, ℕ, true, false, List, ◌∷◌, ◌++◌, length, Ok, Err}
 use Rattle.std.specs.declared.cmp.Ordering.TheVariants.{Less}
 use Rattle.claim_id.specs.declared.numbers.JobId.{JobId}
+use Rattle.ad_tree.specs.Ad.{Attributes, IsAd}
 use Rattle.queue_tx.specs.declared.error.ApplyError.{ApplyError}
 use Rattle.queue_tx.specs.declared.key.Key.{Key}
 use Rattle.queue_tx.specs.declared.key.Key.TheVariants.{Header, Proc}
 use Rattle.queue_tx.specs.Keys.{key_cmp, same_key}
 use Rattle.queue_tx.specs.Operations.{Operation, key_of}
+use Rattle.queue_tx.specs.Room.{most_own, is_kept_name, own_count, lacks_room}
 use Rattle.queue_tx.specs.Queues.{KeyedAds, IsQueue, ad_at, ad_after, after_op, queue_after}
 
 -- the header is before every proc
@@ -58,3 +60,9 @@ pub record IsFirstRefused (q : KeyedAds) (tx : List Operation) (e : ApplyError) 
 abbrev pub RefusesTheFirst : Type 0
 RefusesTheFirst = (q : KeyedAds) (tx : List Operation) (e : ApplyError)
     → queue_after q tx ≡ Err e → IsFirstRefused q tx e
+
+-- where the other attributes of an ad are few enough, there is room for each that the pool sets
+abbrev pub RoomForThePool : Type 0
+RoomForThePool = (key : Key) (ad : Attributes) (name : List ℕ)
+    → IsAd ad → own_count key ad ≤ most_own key → is_kept_name key name ≡ true
+    → lacks_room key name ad ≡ false

@@ -7,3 +7,6 @@ pub mod Queues
 pub mod Printable
 pub mod Prepared
 pub mod Laws
+pub mod Jobs
+pub mod Kept
+pub mod Requests

@@ -1,6 +1,6 @@
 //! What holds of all transactions, in the words of the subject.
 
-ghost use Rattle.queue_tx.specs.Laws.{HeaderComesFirst, ProcsStandByCluster, SameKeysAreEqual, ChangesItsKey, LeavesOtherKeys, StaysAQueue, SequenceIsOne, RefusesTheFirst};
+ghost use Rattle.queue_tx.specs.Laws.{HeaderComesFirst, ProcsStandByCluster, SameKeysAreEqual, ChangesItsKey, LeavesOtherKeys, StaysAQueue, SequenceIsOne, RefusesTheFirst, RoomForThePool};
 
 /// Keys stand in order: the header, then the procs by cluster, then by number.
 pub fn keys_stand_in_order()
@@ -24,4 +24,10 @@ pub fn sequences_are_transactions()
 /// A refusal is that of the first operation that can't be done, with its place.
 pub fn the_first_is_refused()
     ensures { RefusesTheFirst }
+{}
+
+/// Where the other attributes of a job's ad, or of the header's, are at most as many as may be,
+/// there is room for each attribute that the pool sets later.
+pub fn the_pool_has_room()
+    ensures { RoomForThePool }
 {}

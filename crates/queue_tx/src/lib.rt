@@ -3,6 +3,7 @@
 #![tactic(auto)]
 
 mod error;
+mod kept;
 mod key;
 mod kind;
 pub mod laws;
@@ -10,6 +11,7 @@ mod names;
 mod op;
 mod prepared;
 mod queue;
+mod request;
 mod room;
 mod tx;
 
@@ -20,5 +22,6 @@ pub use names::{MAX_OWN_OF_HEADER, MAX_OWN_OF_PROC, MOVING, NEXT_CLUSTER_NUM, NE
 pub use op::Op;
 pub use prepared::Prepared;
 pub use queue::Queue;
+pub use request::makes_same_request;
 pub use room::lacks_room;
 pub use tx::{Tx, TxList};

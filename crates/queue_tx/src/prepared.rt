@@ -10,13 +10,13 @@ ghost use Rattle.queue_tx.specs.Queues.{ad_after, ad_at, after_op, after_ops, wi
 ghost use Rattle.queue_tx.specs.Prepared.{change_of};
 
 use crate::error::ApplyError;
+use crate::kept::ReadyAd;
 use crate::key::Key;
 use crate::op::Op;
 use crate::queue::Queue;
 use crate::room::lacks_room;
 use ad_tree::{Ad, Expr, SetError};
 use ad_value::{Copied, Memory};
-use ordered_map::NewEntry;
 use std::alloc::Global;
 use std::collections::BTreeMap;
 use std::marker::Model;
@@ -24,7 +24,7 @@ use std::marker::Model;
 /// What a transaction leaves under a key, with its memory.
 #[derive(Drop)]
 pub(crate) enum Change {
-    Put(NewEntry<Key, Ad>),
+    Put(ReadyAd),
     Remove(Key),
 }
 
@@ -77,7 +77,7 @@ impl Change {
     {
         match ad {
             None => Ok(Change::Remove(key)),
-            Some(ad) => Ok(Change::Put(NewEntry::new(alloc, key, ad)?)),
+            Some(ad) => Ok(Change::Put(ReadyAd::new(alloc, key, ad)?)),
         }
     }
 }

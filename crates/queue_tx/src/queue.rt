@@ -1,15 +1,20 @@
-ghost use Rattle.std.specs.Prelude.{◌≡◌, ◌≢◌, [], Ok, Err, IfOk, IfErr, OnOk, OnErr};
+ghost use Rattle.std.specs.Prelude.{◌≡◌, ◌≢◌, ◌↔◌, [], IsSomeAnd, IsTrue, Ok, Err, IfOk, IfErr, OnOk, OnErr};
 ghost use Rattle.std.specs.Option.{option_copied};
 ghost use Rattle.ordered_map.specs.Trees.{is_past};
 ghost use Rattle.queue_tx.specs.Keys.{key_cmp, is_above};
 ghost use Rattle.queue_tx.specs.declared.key.Key.{Key};
 ghost use Rattle.queue_tx.specs.declared.error.ApplyError.TheVariants as error;
 ghost use Rattle.queue_tx.specs.Queues.{ad_at, key_after, queue_after, with_ad, with_changes, IsQueue};
+ghost use Rattle.queue_tx.specs.Jobs.{FirstKey, IsJobOf};
 ghost use Rattle.queue_tx.specs.Prepared.{change_of};
+ghost use Rattle.queue_tx.specs.Requests.{IsIdleAsking, SameRequest};
 
 use crate::error::ApplyError;
+use crate::kept::Kinds;
 use crate::key::Key;
+use crate::kind::JobKind;
 use crate::prepared::{Change, Prepared, changes_of};
+use crate::request::makes_same_request;
 use crate::tx::Tx;
 use ad_tree::Ad;
 use ad_value::{Copied, Memory};
@@ -22,6 +27,7 @@ use std::ops::Bound;
 #[derive(Drop)]
 pub struct Queue {
     ads: OrderedMap<Key, Ad>,
+    kinds: Kinds,
 }
 
 impl Model for Queue {
@@ -32,6 +38,10 @@ impl Model for Queue {
     ghost coded = { queue_code };
 
     ghost view = { λ q. q.ads };
+
+    ghost use Rattle.queue_tx.specs.Kept.{AreKinds};
+
+    ghost invariant = { λ q. AreKinds q.kinds q.ads };
 }
 
 impl Queue {
@@ -41,6 +51,7 @@ impl Queue {
     {
         Queue {
             ads: OrderedMap::new(),
+            kinds: Kinds::new(),
         }
     }
 
@@ -59,6 +70,39 @@ impl Queue {
     {
         let entry = self.ads.first_past(past(key))?;
         Some(entry.0)
+    }
+
+    /// The first job of a kind past a bound, by the order of the keys, without memory. Computes in
+    /// O(log jobs).
+    pub fn first_of_kind(&self, kind: JobKind, start: Bound<&Key>) -> Option<&Key>
+        ensures { FirstKey (IsJobOf kind self.now) start.entry (option_copied result) }
+    {
+        let entry = self.kinds.of(kind).first_past(start)?;
+        Some(entry.0)
+    }
+
+    /// The first idle job past a bound that makes the same request as an ad, by the order of the
+    /// keys, without memory. Computes in O(log jobs), and O(attributes) look-ups, for each idle job
+    /// up to it.
+    pub fn first_asking<'a>(&'a self, ad: &Ad, start: Bound<&Key>) -> Option<&'a Key>
+        ensures { FirstKey (IsIdleAsking ad.now self.now) start.entry (option_copied result) }
+    {
+        let key = self.first_of_kind(JobKind::Idle, start)?;
+        if self.asks_same(key, ad) {
+            return Some(key);
+        }
+        self.first_asking(ad, Bound::Excluded(key))
+    }
+
+    // Whether what stands under a key makes the same request as an ad.
+    fn asks_same(&self, key: &Key, ad: &Ad) -> bool
+        ensures { IsTrue result
+            ↔ IsSomeAnd (ad_at key.now self.now) (λ other. SameRequest ad.now other) }
+    {
+        match self.get(key) {
+            Some(other) => makes_same_request(ad, other),
+            None => false,
+        }
     }
 
     /// What a transaction changes, with the memory that it takes; or why its first operation that
@@ -89,9 +133,15 @@ impl Queue {
         ensures { self.new ≡ with_ad (change_of change).0 (change_of change).1 self.old }
     {
         match change {
-            Change::Put(entry) => self.ads.put(entry),
+            Change::Put(ready) => {
+                let kind = ready.kind();
+                let (ad, job) = ready.into_entries();
+                self.ads.put(ad);
+                self.kinds.put(job, kind);
+            }
             Change::Remove(key) => {
                 let _ = self.ads.remove(&key);
+                self.kinds.remove(&key);
             }
         }
     }
@@ -123,6 +173,7 @@ impl Copied for Queue {
     fn copy(&self, alloc: Global) -> Result<Queue, Memory> {
         Ok(Queue {
             ads: self.ads.copy(alloc)?,
+            kinds: self.kinds.copy(alloc)?,
         })
     }
 }

@@ -1,0 +1,7 @@
+use Rattle.queue_tx.specs.Kept.{of_kind, SetsKey}
+use Rattle.std.proofs.Common.{false}
+use Rattle.queue_tx.proofs.KeptJobs.{by_kinds}
+use Rattle.queue_tx.proofs.kept.Kinds.remove.Goals as goal
+
+pub returns : goal.returns
+returns c = by_kinds _ c.clear.ensures c.clear-2.ensures c.clear-3.ensures

@@ -1,0 +1,164 @@
+ghost use Rattle.std.specs.Prelude.{◌≡◌, true, false, [], IfOk, Some};
+ghost use Rattle.queue_tx.specs.Jobs.{kind_under};
+ghost use Rattle.queue_tx.specs.declared.kind.JobKind.{JobKind};
+ghost use Rattle.queue_tx.specs.Kept.{is_kind, of_kind, SetsKey};
+
+use crate::key::Key;
+use crate::kind::{JobKind, kind_of};
+use ad_tree::Ad;
+use ad_value::{Copied, Memory};
+use ordered_map::{NewEntry, OrderedMap};
+use std::alloc::Global;
+use std::marker::Model;
+use std::ops::Bound;
+
+/// A mark that a key is in a set.
+#[derive(Clone, Copy, Debug)]
+pub struct Here;
+
+impl Copied for Here {
+    fn copy(&self, _: Global) -> Result<Here, Memory> {
+        Ok(Here)
+    }
+}
+
+pub(crate) type KeySet = OrderedMap<Key, Here>;
+
+/// The keys of the jobs, by kind.
+#[derive(Drop)]
+pub(crate) struct Kinds {
+    pub(crate) idle: KeySet,
+    pub(crate) held: KeySet,
+    pub(crate) under: KeySet,
+}
+
+impl Kinds {
+    pub(crate) fn new() -> Kinds
+        ensures { (kind : JobKind) → of_kind kind result ≡ [] }
+    {
+        Kinds {
+            idle: OrderedMap::new(),
+            held: OrderedMap::new(),
+            under: OrderedMap::new(),
+        }
+    }
+
+    pub(crate) fn of(&self, kind: JobKind) -> &KeySet
+        ensures { result.now ≡ of_kind kind self.now }
+    {
+        match kind {
+            JobKind::Idle => &self.idle,
+            JobKind::Held => &self.held,
+            JobKind::Under => &self.under,
+        }
+    }
+
+    // The job of a key is of that kind from now on.
+    pub(crate) fn put(&mut self, entry: NewEntry<Key, Here>, kind: Option<JobKind>)
+        ensures { (k : JobKind)
+            → SetsKey entry.0 (is_kind k kind) (of_kind k self.old) (of_kind k self.new) }
+    {
+        let key = *entry.key();
+        match kind {
+            None => self.remove(&key),
+            Some(JobKind::Idle) => {
+                set(&mut self.idle, entry);
+                clear(&mut self.held, &key);
+                clear(&mut self.under, &key);
+            }
+            Some(JobKind::Held) => {
+                clear(&mut self.idle, &key);
+                set(&mut self.held, entry);
+                clear(&mut self.under, &key);
+            }
+            Some(JobKind::Under) => {
+                clear(&mut self.idle, &key);
+                clear(&mut self.held, &key);
+                set(&mut self.under, entry);
+            }
+        }
+    }
+
+    // There is no job under a key from now on.
+    pub(crate) fn remove(&mut self, key: &Key)
+        ensures { (k : JobKind) → SetsKey key.now false (of_kind k self.old) (of_kind k self.new) }
+    {
+        clear(&mut self.idle, key);
+        clear(&mut self.held, key);
+        clear(&mut self.under, key);
+    }
+}
+
+fn set(keys: &mut KeySet, entry: NewEntry<Key, Here>)
+    ensures { SetsKey entry.0 true keys.old keys.new }
+{
+    keys.put(entry);
+}
+
+fn clear(keys: &mut KeySet, key: &Key)
+    ensures { SetsKey key.now false keys.old keys.new }
+{
+    let _ = keys.remove(key);
+}
+
+impl Copied for Kinds {
+    fn copy(&self, alloc: Global) -> Result<Kinds, Memory> {
+        Ok(Kinds {
+            idle: self.idle.copy(alloc)?,
+            held: self.held.copy(alloc)?,
+            under: self.under.copy(alloc)?,
+        })
+    }
+}
+
+/// An ad that is to stand under a key, with the memory for its places in the queue.
+#[derive(Drop)]
+pub(crate) struct ReadyAd {
+    ad: NewEntry<Key, Ad>,
+    job: NewEntry<Key, Here>,
+}
+
+impl Model for ReadyAd {
+    ghost use Rattle.std.specs.Prelude.{◌≡◌};
+    ghost use Rattle.std.specs.Coded.{coded×};
+    ghost use Rattle.ad_tree.specs.Ad.{Attributes};
+    ghost use Rattle.ad_tree.specs.TreeCode.{attributes_code};
+    ghost use Rattle.queue_tx.specs.OperationCode.{key_code};
+    ghost use Rattle.queue_tx.specs.declared.key.Key.{Key};
+
+    ghost Value = { Key × Attributes };
+
+    ghost coded = { coded× key_code attributes_code };
+
+    ghost view = { λ r. r.ad };
+
+    ghost invariant = { λ r. r.job.0 ≡ r.ad.0 };
+}
+
+impl ReadyAd {
+    pub(crate) fn new(alloc: Global, key: Key, ad: Ad) -> Result<ReadyAd, Memory>
+        ensures { IfOk result (λ r. r ≡ (key, ad)) }
+    {
+        let job = NewEntry::new(alloc, key, Here)?;
+        let ad = NewEntry::new(alloc, key, ad)?;
+        Ok(ReadyAd { ad, job })
+    }
+
+    // What the ad makes of the job under its key.
+    pub(crate) fn kind(&self) -> Option<JobKind>
+        ensures { result ≡ kind_under self.now.0 (Some self.now.1) }
+    {
+        match self.ad.key() {
+            Key::Header => None,
+            Key::Proc(_) => kind_of(self.ad.value()),
+        }
+    }
+
+    pub(crate) fn into_entries(self) -> (NewEntry<Key, Ad>, NewEntry<Key, Here>)
+        ensures ad { result.0 ≡ self }
+        ensures job { result.1.0 ≡ self.0 }
+    {
+        let ReadyAd { ad, job } = self;
+        (ad, job)
+    }
+}
