@@ -2,6 +2,7 @@ pub mod Expressions
 pub mod Limits
 pub mod Machines
 pub mod OneOutcome
+pub mod Own
 pub mod Readings
 pub mod SlotLemmas
 pub mod Times

@@ -21,14 +21,21 @@ use Rattle.pool_config.specs.declared.word.Interval.{Interval}
 use Rattle.pool_config.specs.declared.word.Interval.TheVariants as interval
 use Rattle.pool_config.specs.Configuration.{Configuration, ConfiguredMachine, configuration_of, machine_of, outcome, HasRoom, IsWithinLimits, total_slots, plain_machine}
 use Rattle.pool_config.specs.Errors.{UnlessMemory}
-use Rattle.pool_config.specs.Names.{Sets, of_pool, ceiling, prio_factor, of_slots, attribute}
+use Rattle.pool_config.specs.Names.{Sets, of_pool, ceiling, prio_factor, of_slots, attribute, slot_attributes}
+use Rattle.pool_config.specs.Slots.{pool_attributes, slot_ad}
+use Rattle.pool_config.proofs.Own.{Own, Free, own_after, free_sets, ad_is}
+use Rattle.std.specs.List.{list_any}
 use Rattle.pool_config.specs.Settings.{SoFar, and_last, set_to, pool_with, whole, with_value, with_seconds, with_config, seconds_in, owner_in, expression_in, machine_check, begin_if, last_with, with_last, machine_with, slots_with, attribute_with, amount_in, is_full, ceiling_in, factor_in, ceiling_set, factor_set, is_unfit, spool_with}
 use Rattle.submit_lines.specs.Numbers.{decimal}
 use Rattle.pool_config.specs.Lines.{LinesSoFar, ReadResult, TakesValue, no_expansion, expanded, TakesKey, homeless, takes, TakesSetting, unknown, known, TakesLine, no_setting, sets, Reads, ended, no_machine, refuses, and_line, and_macro, begun, IsConfiguration}
 
+-- room, and no attribute that is the pool's or is there twice
+abbrev pub IsSound : Attributes → Type 0
+IsSound ad = (length ad ≤ MAX_MACHINE_ATTRIBUTES) × Own ad
+
 pub HaveRoom : List ConfiguredMachine → Type 0
 HaveRoom [] = Unit {0}
-HaveRoom (m ∷ ms) = HasRoom m × HaveRoom ms
+HaveRoom (m ∷ ms) = IsSound m.attrs × HaveRoom ms
 
 -- machines, and one behind them that may change
 record Fits (ms : List ConfiguredMachine) : Type 0 where
@@ -38,7 +45,7 @@ record Fits (ms : List ConfiguredMachine) : Type 0 where
 
 record LastFits (others : ℕ) (m : ConfiguredMachine) : Type 0 where
   slots : others + m.slots ≤ MAX_SLOTS
-  room : HasRoom m
+  room : IsSound m.attrs
 
 -- ---- lists with one more
 
@@ -48,7 +55,7 @@ total_more (k ∷ ms) m =
     let rest = total_more ms m in
     omega (arith, rest)
 
-room_more : (ms : List ConfiguredMachine) (m : ConfiguredMachine) → HaveRoom ms → HasRoom m → HaveRoom (ms ++ m ∷ [])
+room_more : (ms : List ConfiguredMachine) (m : ConfiguredMachine) → HaveRoom ms → IsSound m.attrs → HaveRoom (ms ++ m ∷ [])
 unfolding HaveRoom
 room_more [] m all one = (one, tt)
 room_more (k ∷ ms) m all one = (all.0, room_more ms m all.1 one)
@@ -58,7 +65,7 @@ unfolding HaveRoom
 room_before [] m all = tt
 room_before (k ∷ ms) m all = (all.0, room_before ms m all.1)
 
-room_last : (ms : List ConfiguredMachine) (m : ConfiguredMachine) → HaveRoom (ms ++ m ∷ []) → HasRoom m
+room_last : (ms : List ConfiguredMachine) (m : ConfiguredMachine) → HaveRoom (ms ++ m ∷ []) → IsSound m.attrs
 unfolding HaveRoom
 room_last [] m all = all.0
 room_last (k ∷ ms) m all = room_last ms m all.1
@@ -123,19 +130,19 @@ by_slots others n m fits (Some k) = by (nat_eq k 0) (nat_lt MAX_SLOTS (others + 
     by false true is = tt
     by false false is = record { slots = grind (arith, is); room = fits.room }
 
-by_attribute : (others n : ℕ) (x : List ℕ) (m : ConfiguredMachine) → LastFits others m → (o : Option Tree) → MachineKeeps others (attribute_with x n m o)
+by_attribute : (others n : ℕ) (x : List ℕ) (m : ConfiguredMachine) → list_any (same_name x) slot_attributes ≡ false → LastFits others m → (o : Option Tree) → MachineKeeps others (attribute_with x n m o)
 unfolding MachineKeeps
-by_attribute others n x m fits None = tt
-by_attribute others n x m fits (Some e) = by (is_full x m.attrs) refl
+by_attribute others n x m free fits None = tt
+by_attribute others n x m free fits (Some e) = by (is_full x m.attrs) refl
   where
     by : (b : Bool) → is_full x m.attrs ≡ b → MachineKeeps others (cond b (Err (error.Full n)) (Ok (record m { attrs = with_attribute x e m.attrs })))
     by true is = tt
-    by false is = record { slots = fits.slots; room = room_after x e m.attrs fits.room is }
+    by false is = record { slots = fits.slots; room = (room_after x e m.attrs fits.room.0 is, own_after x e m.attrs free fits.room.1) }
 
 same_slots : (others : ℕ) (m k : ConfiguredMachine) → LastFits others m → k.slots ≡ m.slots → k.attrs ≡ m.attrs → LastFits others k
 same_slots others m k fits slots attrs = record {
   slots = omega (arith, fits.slots, slots);
-  room = subst (λ ad. length ad ≤ MAX_MACHINE_ATTRIBUTES) (sym attrs) fits.room;
+  room = subst IsSound (sym attrs) fits.room;
 }
 
 by_word : (w : SlotWord) (x : List ℕ) (n others : ℕ) (m : ConfiguredMachine) → LastFits others m → MachineKeeps others (machine_with w x n others m)
@@ -177,11 +184,21 @@ seconds_machines interval.DecayTick n c = refl
 seconds_machines interval.MaxJobRetirementTime n c = refl
 seconds_machines interval.MachineMaxVacateTime n c = refl
 
+abbrev none_attributes : Attributes
+none_attributes = []
+
+none_room : length none_attributes ≤ MAX_MACHINE_ATTRIBUTES
+none_room = omega arith
+
+none_own : Own []
+unfolding Own
+none_own = tt
+
 begin_fits : (x : List ℕ) (ms : List ConfiguredMachine) → Fits ms → nat_le MAX_MACHINES (length ms) ≡ false → nat_lt MAX_SLOTS (total_slots ms + 1) ≡ false → Fits (ms ++ plain_machine x ∷ [])
 begin_fits x ms f few slots = record {
   machines = grind (arith, few, length-append ms (plain_machine x ∷ []));
   slots = grind (arith, slots, total_more ms (plain_machine x));
-  room = room_more ms (plain_machine x) f.room (omega arith);
+  room = room_more ms (plain_machine x) f.room (none_room, none_own);
 }
 
 by_begin : (x : List ℕ) (n : ℕ) (c : Configuration) → Fits c.machines → Keeps (begin_if x c (machine_check x n c.machines))
@@ -213,12 +230,13 @@ by_last f n s keeps (Some m) fits =
     by_machine s (f m) (λ k. fits_with s.config.machines m k fits) (keeps m (fits_last s.config.machines m fits))
 by_last f n s keeps None fits = tt
 
-by_sets : (k : Sets) (x : List ℕ) (n : ℕ) (s : SoFar) → AllFit s → Keeps (set_to k x n s)
-by_sets (of_pool w) x n s f = by_pool w x n s f
-by_sets (ceiling u) x n s f = by_value n (ceiling_set u s) (λ k. same_machines s (ceiling_set u s k) f refl refl) (ceiling_in x)
-by_sets (prio_factor u) x n s f = by_value n (factor_set u s) (λ k. same_machines s (factor_set u s k) f refl refl) (factor_in x)
-by_sets (of_slots w) x n s f = by_last (machine_with w x n (total_slots s.config.machines)) n s (λ m fits. by_word w x n (total_slots s.config.machines) m fits) s.last f
-by_sets (attribute a) x n s f = by_last (λ m. attribute_with a n m (expression_in x)) n s (λ m fits. by_attribute (total_slots s.config.machines) n a m fits (expression_in x)) s.last f
+by_sets : (k : Sets) (x : List ℕ) (n : ℕ) (s : SoFar) → Free k → AllFit s → Keeps (set_to k x n s)
+unfolding Free
+by_sets (of_pool w) x n s free f = by_pool w x n s f
+by_sets (ceiling u) x n s free f = by_value n (ceiling_set u s) (λ k. same_machines s (ceiling_set u s k) f refl refl) (ceiling_in x)
+by_sets (prio_factor u) x n s free f = by_value n (factor_set u s) (λ k. same_machines s (factor_set u s k) f refl refl) (factor_in x)
+by_sets (of_slots w) x n s free f = by_last (machine_with w x n (total_slots s.config.machines)) n s (λ m fits. by_word w x n (total_slots s.config.machines) m fits) s.last f
+by_sets (attribute a) x n s free f = by_last (λ m. attribute_with a n m (expression_in x)) n s (λ m fits. by_attribute (total_slots s.config.machines) n a m free fits (expression_in x)) s.last f
 
 -- ---- lines
 
@@ -231,20 +249,20 @@ unfolding LineKeeps Keeps
 macro_keeps name x t (Ok s) keeps = keeps
 macro_keeps name x t (Err f) keeps = tt
 
-value_keeps : (r : LinesSoFar) (n : ℕ) (k : Sets) (name value : List ℕ) (q : Result LinesSoFar ConfigError) → AllFit r.settings → TakesValue r n k name value q → LineKeeps q
+value_keeps : (r : LinesSoFar) (n : ℕ) (k : Sets) (name value : List ℕ) (q : Result LinesSoFar ConfigError) → Free k → AllFit r.settings → TakesValue r n k name value q → LineKeeps q
 unfolding LineKeeps
-value_keeps r n k name value _ f (no_expansion refused told) = tt
-value_keeps r n k name value _ f (expanded {x = x} expands) = macro_keeps name x r.table (set_to k x n r.settings) (by_sets k x n r.settings f)
+value_keeps r n k name value _ free f (no_expansion refused told) = tt
+value_keeps r n k name value _ free f (expanded {x = x} expands) = macro_keeps name x r.table (set_to k x n r.settings) (by_sets k x n r.settings free f)
 
-key_keeps : (r : LinesSoFar) (n : ℕ) (k : Sets) (name value : List ℕ) (q : Result LinesSoFar ConfigError) → AllFit r.settings → TakesKey r n k name value q → LineKeeps q
+key_keeps : (r : LinesSoFar) (n : ℕ) (k : Sets) (name value : List ℕ) (q : Result LinesSoFar ConfigError) → Free k → AllFit r.settings → TakesKey r n k name value q → LineKeeps q
 unfolding LineKeeps
-key_keeps r n k name value _ f (homeless home) = tt
-key_keeps r n k name value q f (takes home taken) = value_keeps r n k name value q f taken
+key_keeps r n k name value _ free f (homeless home) = tt
+key_keeps r n k name value q free f (takes home taken) = value_keeps r n k name value q free f taken
 
 setting_keeps : (r : LinesSoFar) (n : ℕ) (name value : List ℕ) (q : Result LinesSoFar ConfigError) → AllFit r.settings → TakesSetting r n name value q → LineKeeps q
 unfolding LineKeeps
 setting_keeps r n name value _ f (unknown none) = tt
-setting_keeps r n name value q f (known {k = k} named taken) = key_keeps r n k name value q f taken
+setting_keeps r n name value q f (known {k = k} named taken) = key_keeps r n k name value q (free_sets name k named) f taken
 
 line_keeps : (r : LinesSoFar) (l : Line) (q : Result LinesSoFar ConfigError) → AllFit r.settings → TakesLine r l q → LineKeeps q
 unfolding LineKeeps
@@ -254,10 +272,18 @@ line_keeps r l q f (sets {name = name} {value = value} is taken) = setting_keeps
 all_room : (ms : List ConfiguredMachine) → HaveRoom ms → All HasRoom ms
 unfolding HaveRoom
 all_room [] h = All-nil HasRoom
-all_room (m ∷ ms) h = All-cons HasRoom m ms h.0 (all_room ms h.1)
+all_room (m ∷ ms) h = All-cons HasRoom m ms h.0.0 (all_room ms h.1)
+
+abbrev pub HasOwn : ConfiguredMachine → Type 0
+HasOwn m = (k : ℕ) → slot_ad m k ≡ pool_attributes m k ++ m.attrs
+
+all_own : (ms : List ConfiguredMachine) → HaveRoom ms → All HasOwn ms
+unfolding HaveRoom
+all_own [] h = All-nil HasOwn
+all_own (m ∷ ms) h = All-cons HasOwn m ms (λ k. ad_is m k h.0.1) (all_own ms h.1)
 
 pub ReadWithin : ReadResult → Type 0
-ReadWithin (Ok c) = IsWithinLimits c
+ReadWithin (Ok c) = IsWithinLimits c × All HasOwn c.machines
 ReadWithin (Err f) = Unit {0}
 
 whole_within : (r : LinesSoFar) (m : ConfiguredMachine) → r.settings.last ≡ Some m → AllFit r.settings → IsWithinLimits (whole r.settings)
@@ -270,7 +296,7 @@ whole_within r m is f = record {
 
 reads_within : (ls : List Line) (r : LinesSoFar) (q : ReadResult) → AllFit r.settings → Reads ls r q → ReadWithin q
 unfolding ReadWithin LineKeeps
-reads_within _ r _ f (ended {m = m} is) = whole_within r m is f
+reads_within _ r _ f (ended {m = m} is) = (whole_within r m is f, all_own (and_last r.settings.config.machines r.settings.last) f.room)
 reads_within _ r _ f (no_machine is) = tt
 reads_within _ r _ f (refuses a) = tt
 reads_within _ r q f (and_line {s = s} {l = l} {ls = ls} a more) = reads_within ls s q (line_keeps r l (Ok s) f a) more
@@ -284,8 +310,12 @@ within text q is = reads_within (logical_lines text) begun q begun_fits is
 
 pub read_within : (text : List ℕ) (r : Result Config ConfigError) → UnlessMemory (IsConfiguration text) (outcome r) → IfOk r (λ c. IsWithinLimits (configuration_of c))
 unfolding ReadWithin
-read_within text (Ok c) is = within text (Ok (configuration_of c)) is
+read_within text (Ok c) is = (within text (Ok (configuration_of c)) is).0
 read_within text (Err f) is = tt
+
+pub read_own : (text : List ℕ) (c : Configuration) → IsConfiguration text (Ok c) → All HasOwn c.machines
+unfolding ReadWithin
+read_own text c is = (within text (Ok c) is).1
 
 -- ---- machines as the program keeps them
 

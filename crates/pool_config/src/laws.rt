@@ -1,6 +1,6 @@
 //! What holds of every configuration.
 
-ghost use Rattle.std.specs.Prelude.{◌≡◌, ◌≢◌, ℕ, List, length, Ok, Err};
+ghost use Rattle.std.specs.Prelude.{◌≡◌, ◌≢◌, ◌++◌, ℕ, List, All, length, Ok, Err};
 ghost use Rattle.line_text.specs.Lines.{logical_lines};
 ghost use Rattle.pool_config.specs.declared.error.ConfigError.{ConfigError};
 ghost use Rattle.pool_config.specs.declared.error.ConfigError.TheVariants as error;
@@ -8,7 +8,7 @@ ghost use Rattle.pool_config.specs.declared.word.Interval.{Interval};
 ghost use Rattle.pool_config.specs.Configuration.{Configuration, plain_configuration, total_slots};
 ghost use Rattle.pool_config.specs.Laws.{CountsLast, IsFirstRefused, seconds_of};
 ghost use Rattle.pool_config.specs.Lines.{IsConfiguration, ReadResult, begun};
-ghost use Rattle.pool_config.specs.Slots.{configured_slots};
+ghost use Rattle.pool_config.specs.Slots.{configured_slots, pool_attributes, slot_ad};
 
 /// A text is a configuration or is refused, and once.
 pub fn text_has_one_outcome()
@@ -33,4 +33,11 @@ pub fn last_time_counts()
 /// There are as many slots as the machines say.
 pub fn slots_are_counted()
     ensures { (c : Configuration) → length (configured_slots c) ≡ total_slots c.machines }
+{}
+
+/// The ad of each slot is what the pool gives it and, behind that, its machine's own attributes as
+/// they are.
+pub fn own_attributes_come_last()
+    ensures { (text : List ℕ) (c : Configuration) → IsConfiguration text (Ok c)
+        → All (λ m. (k : ℕ) → slot_ad m k ≡ pool_attributes m k ++ m.attrs) c.machines }
 {}
