@@ -1,0 +1,10 @@
+pub mod Boundaries
+pub mod Feeding
+pub mod KeyWords
+pub mod Newlines
+pub mod Printed
+pub mod Printing
+pub mod RecordLemmas
+pub mod RecordWords
+pub mod LogLemmas
+pub mod Transactions
