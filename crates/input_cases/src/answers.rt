@@ -1,3 +1,4 @@
+use crate::configs::{answer_config, answer_slots};
 use crate::launches::answer_launch;
 use crate::loads::answer_load;
 use crate::macros::answer_expand;
@@ -25,6 +26,8 @@ fn answer(alloc: Global, case: Case<'_>, out: &mut String) -> Result<(), CaseErr
         "script" => answer_script(alloc, case, out),
         "load" => answer_load(alloc, case, out),
         "submit" => answer_submit(alloc, case, out),
+        "config" => answer_config(alloc, case, out),
+        "slots" => answer_slots(alloc, case, out),
         _ => Err(CaseError::Kind { line: case.line }),
     }
 }

@@ -2,11 +2,13 @@
 //! standard input, an answer a line on standard output.
 //!
 //! `lines TEXT`, `expand TEXT NAME=VALUE ..`, `words TEXT plain`, `words TEXT quoted`,
-//! `launch AD`, `script TEXT MACHINE ..`, `load NUMBER JOBS`, `submit TEXT CLUSTER OWNER READING`:
+//! `launch AD`, `script TEXT MACHINE ..`, `load NUMBER JOBS`, `submit TEXT CLUSTER OWNER READING`,
+//! `config TEXT`, `slots TEXT`:
 //! README.md says what each answers.
 #![tactic(auto)]
 
 mod answers;
+mod configs;
 mod launches;
 mod loads;
 mod macros;

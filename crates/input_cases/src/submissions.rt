@@ -35,7 +35,8 @@ fn write_ads(alloc: Global, ads: &AdList, out: &mut String) -> Result<(), AllocE
     Ok(())
 }
 
-fn write_ad(alloc: Global, ad: &Ad, out: &mut String) -> Result<(), AllocError> {
+/// Appends the attributes of an ad, a line each.
+pub(crate) fn write_ad(alloc: Global, ad: &Ad, out: &mut String) -> Result<(), AllocError> {
     for place in 0..ad.len() {
         if let Some((name, expr)) = ad.attribute(place) {
             let Ok(text) = print_expr(alloc, expr) else {
