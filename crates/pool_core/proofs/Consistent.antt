@@ -1,10 +1,10 @@
 -- What always holds of a pool is kept by each event.
-use Rattle.std.proofs.Common.{◌≡◌, ◌≢◌, ℕ, ◌+◌, ◌≤◌, ◌⊎◌, inl, inr, List, [], ◌∷◌, ◌++◌, length, Option, Some, None, Bool, true, false, true≢false, ◌||◌, not, refl, sym, ◌∙◌, ap, subst, arith, if◌then◌else◌, cond, IfSome, IsSome, IsSomeAnd, is_some}
+use Rattle.std.proofs.Common.{◌≡◌, ◌≢◌, ℕ, ◌+◌, ◌<◌, ◌≤◌, ◌⊎◌, inl, inr, List, [], ◌∷◌, ◌++◌, length, Option, Some, None, Bool, true, false, true≢false, ◌||◌, not, refl, sym, ◌∙◌, ap, subst, arith, if◌then◌else◌, cond, IfSome, IsSome, IsSomeAnd, is_some}
 use Rattle.std.specs.Prelude.{option_map, nat_lt}
 use Rattle.std.specs.List.{count_by}
 use Rattle.std.proofs.lemmas.List.{length-append}
 use Rattle.std.proofs.lemmas.List.Sums.{sum_by-append}
-use Rattle.std.proofs.lemmas.Bool.{ltb-false}
+use Rattle.std.proofs.lemmas.Bool.{ltb-true, ltb-false}
 use Rattle.ad_tree.specs.Ad.{Attributes}
 use Rattle.ad_eval.specs.Judgement.{Judgement}
 use Rattle.pool_core.specs.declared.answer.StepError.TheVariants as error
@@ -22,7 +22,7 @@ use Rattle.pool_core.specs.declared.numbers.SlotId.{SlotId}
 use Rattle.pool_core.specs.declared.slot.SlotAd.{SlotAd}
 use Rattle.pool_core.specs.Numbers.{same_job, same_slot}
 use Rattle.pool_core.specs.PoolValue.{PoolValue, job_at, run_at, slot_at, has_started, is_idle, HasItsRun, IsConsistent}
-use Rattle.pool_core.specs.Reactions.{opening_pool, is_idle_job, run_in, run_of_job, is_judged, start_refusal, open_refusal, refusal, numbered_jobs, clusters_after, with_phase, without_run, phase_after, run_named, with_jobs, with_run, with_end_of, with_event, pool_after}
+use Rattle.pool_core.specs.Reactions.{opening_pool, is_idle_job, run_in, run_of_job, is_judged, start_refusal, open_refusal, refusal, numbered_jobs, takes_number, last_cluster_after, with_phase, without_run, phase_after, run_named, with_jobs, with_run, with_end_of, with_event, pool_after}
 use Rattle.pool_core.proofs.Steps.{same_job-true}
 use Rattle.pool_core.proofs.Tables.{weight, jobs_told, slots_told, no_others, value_at-append, value_at-append-some, value_at-new, value_at-old, once_new, in_phase, job_at-own, job_at-other, once_with_phase, length-with_phase, count-with_phase, job_at-none, same_slot-true, length-numbered, count-numbered, cluster-numbered, idle-numbered, once_numbered, run_at-without-other, run_at-without-none, run_at-without-own, once_without}
 
@@ -87,6 +87,12 @@ judged_there None b reading judged h = absurd (true≢false (sym h))
 judged_there (Some j) None reading judged h = absurd (true≢false (sym h))
 judged_there (Some j) (Some s) reading judged h = (s, refl)
 
+pub placed_start : (p : PoolValue) (job : JobId) (slot : SlotId) (judged : Judgement) (reading : ℕ) → refusal p (event.Start job slot judged reading) ≡ None → IsSome (slot_at slot p.slots)
+placed_start p job slot judged reading ok =
+    let is = startable p job slot judged reading (opened p (event.Start job slot judged reading) ok) in
+    let there = judged_there (job_at job p.jobs) (slot_at slot p.slots) reading judged is.its_match in
+    rw there.1 refl
+
 -- a job that has a run, with the phase that it is in
 pub record Runs (o : Option Job) (run : RunName) : Type 0 where
   pub job : Job
@@ -109,11 +115,11 @@ runs_there (Some j) run h = by_phase j.phase refl h
 -- ---- Submit
 pub submit_consistent : (p : PoolValue) (ads : List Attributes) → IsConsistent p → length p.jobs + length ads ≤ 10000 → IsConsistent (with_jobs p ads)
 submit_consistent p ads is few = record {
-  jobs_once = once_numbered (p.clusters + 1) 0 ads p.jobs is.jobs_once (λ id there. inl (omega (arith, is.numbered id there)));
+  jobs_once = once_numbered (p.last_cluster + 1) 0 ads p.jobs is.jobs_once (λ id there. inl (omega (arith, is.numbered id there)));
   runs_once = is.runs_once;
   placed = is.placed;
-  few = omega (arith, few, length-append p.jobs new, length-numbered (p.clusters + 1) 0 ads);
-  clusters_few = fewer ads;
+  few = omega (arith, few, length-append p.jobs new, length-numbered (p.last_cluster + 1) 0 ads);
+  last_cluster_few = fewer ads;
   numbered = λ id there. by_place id there (value_at-append same_job id p.jobs new);
   counted = is.counted ∙ sym (count-append ∙ more);
   run_numbers = is.run_numbers;
@@ -121,27 +127,34 @@ submit_consistent p ads is few = record {
 }
   where
     new : List (JobId × Job)
-    new = numbered_jobs (p.clusters + 1) 0 ads
+    new = numbered_jobs (p.last_cluster + 1) 0 ads
 
-    fewer : (xs : List Attributes) → clusters_after p.clusters xs ≤ length (p.jobs ++ numbered_jobs (p.clusters + 1) 0 xs)
-    fewer [] = omega (arith, is.clusters_few, length-append p.jobs [])
-    fewer (x ∷ xs) = omega (arith, is.clusters_few, length-append p.jobs (numbered_jobs (p.clusters + 1) 0 (x ∷ xs)), length-numbered (p.clusters + 1) 0 (x ∷ xs))
+    fewer : (xs : List Attributes) → last_cluster_after p.last_cluster xs ≤ 4294957293 + length (p.jobs ++ numbered_jobs (p.last_cluster + 1) 0 xs)
+    fewer [] = by_test (nat_lt p.last_cluster 4294957293) refl
+      where
+        by_test : (b : Bool) → nat_lt p.last_cluster 4294957293 ≡ b → (if b then p.last_cluster + 1 else p.last_cluster) ≤ 4294957293 + length (p.jobs ++ [])
+        by_test true less = let below : p.last_cluster < 4294957293 = ltb-true p.last_cluster 4294957293 less in omega arith
+        by_test false less = omega (arith, is.last_cluster_few, length-append p.jobs [])
+    fewer (x ∷ xs) = omega (arith, is.last_cluster_few, length-append p.jobs (numbered_jobs (p.last_cluster + 1) 0 (x ∷ xs)), length-numbered (p.last_cluster + 1) 0 (x ∷ xs))
 
     count-append : count_by has_started (p.jobs ++ new) ≡ count_by has_started p.jobs + count_by has_started new
     count-append = sum_by-append (λ e. cond (has_started e) 1 0) p.jobs new
 
     more : count_by has_started p.jobs + count_by has_started new ≡ count_by has_started p.jobs
-    more = omega (arith, count-numbered (p.clusters + 1) 0 ads)
+    more = omega (arith, count-numbered (p.last_cluster + 1) 0 ads)
 
-    grown : (xs : List Attributes) → p.clusters ≤ clusters_after p.clusters xs
-    grown [] = omega arith
-    grown (x ∷ xs) = omega arith
+    grown : (xs : List Attributes) → p.last_cluster ≤ last_cluster_after p.last_cluster xs
+    grown xs = by_test (takes_number p.last_cluster xs)
+      where
+        by_test : (b : Bool) → p.last_cluster ≤ (if b then p.last_cluster + 1 else p.last_cluster)
+        by_test true = omega arith
+        by_test false = omega arith
 
-    of_new : (id : JobId) (xs : List Attributes) → IsSome (job_at id (numbered_jobs (p.clusters + 1) 0 xs)) → id.cluster ≤ clusters_after p.clusters xs
+    of_new : (id : JobId) (xs : List Attributes) → IsSome (job_at id (numbered_jobs (p.last_cluster + 1) 0 xs)) → id.cluster ≤ last_cluster_after p.last_cluster xs
     of_new id [] there = absurd (true≢false (sym there))
-    of_new id (x ∷ xs) there = omega (arith, cluster-numbered id (p.clusters + 1) 0 (x ∷ xs) there)
+    of_new id (x ∷ xs) there = omega (arith, cluster-numbered id (p.last_cluster + 1) 0 (x ∷ xs) there)
 
-    by_place : (id : JobId) → IsSome (job_at id (p.jobs ++ new)) → (job_at id (p.jobs ++ new) ≡ job_at id p.jobs) ⊎ ((job_at id p.jobs ≡ None) × (job_at id (p.jobs ++ new) ≡ job_at id new)) → id.cluster ≤ clusters_after p.clusters ads
+    by_place : (id : JobId) → IsSome (job_at id (p.jobs ++ new)) → (job_at id (p.jobs ++ new) ≡ job_at id p.jobs) ⊎ ((job_at id p.jobs ≡ None) × (job_at id (p.jobs ++ new) ≡ job_at id new)) → id.cluster ≤ last_cluster_after p.last_cluster ads
     by_place id there (inl old) = omega (arith, is.numbered id (subst IsSome old there), grown ads)
     by_place id there (inr h) = of_new id ads (subst IsSome h.1 there)
 
@@ -151,11 +164,11 @@ submit_consistent p ads is few = record {
 
     by_run : (id : JobId) → (job_at id (p.jobs ++ new) ≡ job_at id p.jobs) ⊎ ((job_at id p.jobs ≡ None) × (job_at id (p.jobs ++ new) ≡ job_at id new)) → IfSome (job_at id (p.jobs ++ new)) (λ j. HasItsRun id j.phase p.runs)
     by_run id (inl old) = subst (λ o. IfSome o (λ j. HasItsRun id j.phase p.runs)) (sym old) (is.its_runs id)
-    by_run id (inr h) = subst (λ o. IfSome o (λ j. HasItsRun id j.phase p.runs)) (sym h.1) (waiting id (job_at id new) (idle-numbered id (p.clusters + 1) 0 ads))
+    by_run id (inr h) = subst (λ o. IfSome o (λ j. HasItsRun id j.phase p.runs)) (sym h.1) (waiting id (job_at id new) (idle-numbered id (p.last_cluster + 1) 0 ads))
 
 -- ---- a job in another phase
 -- what the table of jobs says but for the phases
-numbered_on : (p : PoolValue) (job : JobId) (ph : Phase) → IsConsistent p → (id : JobId) → IsSome (job_at id (with_phase job ph p.jobs)) → id.cluster ≤ p.clusters
+numbered_on : (p : PoolValue) (job : JobId) (ph : Phase) → IsConsistent p → (id : JobId) → IsSome (job_at id (with_phase job ph p.jobs)) → id.cluster ≤ p.last_cluster
 numbered_on p job ph is id there = is.numbered id (by (job_at id p.jobs) refl there)
   where
     by : (o : Option Job) → job_at id p.jobs ≡ o → IsSome (job_at id (with_phase job ph p.jobs)) → IsSome o
@@ -169,7 +182,7 @@ start_consistent p job slot judged reading is ok = record {
   runs_once = once_new slots_told slot run p.runs is.runs_once ok.free;
   placed = λ q there. by_slot_placed q (same_slot q slot) refl there;
   few = omega (arith, is.few, length-with_phase job ph p.jobs);
-  clusters_few = omega (arith, is.clusters_few, length-with_phase job ph p.jobs);
+  last_cluster_few = omega (arith, is.last_cluster_few, length-with_phase job ph p.jobs);
   numbered = numbered_on p job ph is;
   counted = omega (arith, is.counted, count-with_phase job ph j p.jobs idle.1, one);
   run_numbers = λ q. by_slot_number q (same_slot q slot) refl;
@@ -271,7 +284,7 @@ end_consistent p job end run is r = record {
   runs_once = once_without run.slot p.runs is.runs_once;
   placed = λ q there. is.placed q (there_before q (run_at q p.runs) refl there);
   few = omega (arith, is.few, length-with_phase job ph p.jobs);
-  clusters_few = omega (arith, is.clusters_few, length-with_phase job ph p.jobs);
+  last_cluster_few = omega (arith, is.last_cluster_few, length-with_phase job ph p.jobs);
   numbered = numbered_on p job ph is;
   counted = omega (arith, is.counted, count-with_phase job ph r.job p.jobs r.there, old, new);
   run_numbers = λ q. by_slot_number q (same_slot q run.slot) refl;
@@ -338,7 +351,7 @@ reclosed p latest closed is = record {
   runs_once = is.runs_once;
   placed = is.placed;
   few = is.few;
-  clusters_few = is.clusters_few;
+  last_cluster_few = is.last_cluster_few;
   numbered = is.numbered;
   counted = is.counted;
   run_numbers = is.run_numbers;
@@ -366,7 +379,7 @@ opening_consistent slots = record {
   runs_once = tt;
   placed = λ slot there. absurd (true≢false (sym there));
   few = omega arith;
-  clusters_few = omega arith;
+  last_cluster_few = omega arith;
   numbered = λ id there. absurd (true≢false (sym there));
   counted = refl;
   run_numbers = λ slot. tt;

@@ -360,21 +360,21 @@ end_takes p job NotStarted reading run is e = (
 -- the steps of an accepted event, but for the time
 own_takes : (p : PoolValue) (ev : Event) → IsConsistent p → open_refusal p ev ≡ None → Takes (record (view_of p) { moment = max p.latest (reading_of ev) }) (own_steps p ev) (view_of (pool_after p ev))
 own_takes p (event.Submit jobs reading) is ok =
-    submit_takes jobs (p.clusters + 1) 0 p.jobs (record (view_of p) { moment = max p.latest reading }) (view_of (pool_after p (event.Submit jobs reading)))
+    submit_takes jobs (p.last_cluster + 1) 0 p.jobs (record (view_of p) { moment = max p.latest reading }) (view_of (pool_after p (event.Submit jobs reading)))
     (λ id there. inl (omega (arith, is.numbered id there)))
     (λ q. refl)
     (λ q. refl)
     (same_members (map (λ e. e.0) p.jobs))
-    (same_members (map (λ e. e.0) (p.jobs ++ numbered_jobs (p.clusters + 1) 0 jobs)))
+    (same_members (map (λ e. e.0) (p.jobs ++ numbered_jobs (p.last_cluster + 1) 0 jobs)))
     (record {
       moment = refl;
       next = refl;
       jobs = λ q. refl;
-      acked = same_members (map (λ e. e.0) (p.jobs ++ numbered_jobs (p.clusters + 1) 0 jobs));
+      acked = same_members (map (λ e. e.0) (p.jobs ++ numbered_jobs (p.last_cluster + 1) 0 jobs));
       ordered = same_members [];
       runs = same_members (map run_of p.runs);
       marks = λ q. refl;
-      reports = subst (SameMembers (filter_map said_in p.jobs)) (sym (said_by_new (p.clusters + 1) 0 jobs)) (same_members (filter_map said_in p.jobs));
+      reports = subst (SameMembers (filter_map said_in p.jobs)) (sym (said_by_new (p.last_cluster + 1) 0 jobs)) (same_members (filter_map said_in p.jobs));
       slots = λ q. refl;
     })
   where

@@ -18,7 +18,8 @@ use Rattle.pool_core.specs.declared.job.RunName.{RunName}
 use Rattle.pool_core.specs.declared.numbers.JobId.{JobId}
 use Rattle.pool_core.specs.declared.numbers.SlotId.{SlotId}
 use Rattle.pool_core.specs.declared.slot.SlotAd.{SlotAd}
-use Rattle.pool_core.specs.Jobs.{idle_jobs}
+use Rattle.pool_core.specs.Jobs.{idle_at, idle_jobs}
+use Rattle.pool_core.specs.Pairs.{IsFirstFit}
 use Rattle.pool_core.specs.Numbers.{same_job, same_slot}
 use Rattle.pool_core.specs.PoolValue.{PoolValue, HasKeysOnce, AreNumberedOnce, job_at, slot_at, run_at, is_idle}
 use Rattle.pool_core.specs.Reactions.{refusal, pool_after, is_idle_job, is_judged, idle_ads, slot_ads, run_of_job, run_named, phase_after, with_phase}
@@ -123,12 +124,33 @@ found_ads p now found id ad s first job slot = (
   some_same found.judged.slot s.ad (sym first.slot_there ∙ (ads_of_slots p.slots found.slot ∙ ap (option_map (λ (x : SlotAd). x.ad)) slot)),
 )
 
+abbrev if_idle : Bool → JobId → Attributes → Option (JobId × Attributes)
+if_idle t id ad = if t then Some (id, ad) else None
+
+-- the idle job at a place among all
+pub idle_at_stands : (jobs : List (JobId × Job)) (k : ℕ) (id : JobId) (ad : Attributes) → HasKeysOnce same_job jobs → idle_at k jobs ≡ Some (id, ad) → StandsIdle jobs id ad
+idle_at_stands [] k id ad once is = none_is_some (id, ad) is
+idle_at_stands (e ∷ es) zero id ad once is = by (is_idle e.1.phase) refl is
+  where
+    by : (t : Bool) → is_idle e.1.phase ≡ t → if_idle t e.0 e.1.ad ≡ Some (id, ad) → StandsIdle (e ∷ es) id ad
+    by true idle at = first_stands e es id ad idle (some_same (e.0, e.1.ad) (id, ad) at)
+    by false idle at = none_is_some (id, ad) at
+idle_at_stands (e ∷ es) (suc k) id ad once is = later_stands e es id ad once.0 (idle_at_stands es k id ad once.1 is)
+
 -- ---- what it accepts
+
+starts_idle : (p : PoolValue) (k : ℕ) (id : JobId) (ad : Attributes) (s : SlotAd) (judged : Judgement) (reading : ℕ) → IsResting p → StandsIdle p.jobs id ad → AreNumberedOnce p.slots → slice_get p.slots k ≡ Some s → judged.job ≡ ad → judged.slot ≡ s.ad → judged.at ≡ reading → refusal p (Start id s.slot judged reading) ≡ None
+starts_idle p k id ad s judged reading rests is slots_once slot of_job of_slot at =
+    rw (rests.is_open, rests.no_runs, is.there, is.idle, slot_stands p.slots k s slots_once slot, eq-eqb judged.at reading at, same_ad-same judged.job is.job.ad (of_job ∙ sym is.ad_is), same_ad-same judged.slot s.ad of_slot) refl
+
+-- a job and the first slot that it matches
+pub first_may_start : (p : PoolValue) (k : ℕ) (id : JobId) (ad : Attributes) (slot : SlotId) (judged : Judgement) (reading : ℕ) → IsResting p → HasKeysOnce same_job p.jobs → AreNumberedOnce p.slots → idle_at k p.jobs ≡ Some (id, ad) → IsFirstFit p.slots ad reading slot judged → refusal p (Start id slot judged reading) ≡ None
+first_may_start p k id ad slot judged reading rests jobs_once slots_once job fit =
+    rw fit.its_number (starts_idle p fit.place id ad fit.slot judged reading rests (idle_at_stands p.jobs k id ad jobs_once job) slots_once fit.there fit.of_job fit.of_slot fit.at_now)
 
 pub may_start : (p : PoolValue) (i k : ℕ) (id : JobId) (ad : Attributes) (s : SlotAd) (judged : Judgement) (reading : ℕ) → IsResting p → HasKeysOnce same_job p.jobs → AreNumberedOnce p.slots → slice_get (idle_jobs p.jobs) i ≡ Some (id, ad) → slice_get p.slots k ≡ Some s → judged.job ≡ ad → judged.slot ≡ s.ad → judged.at ≡ reading → refusal p (Start id s.slot judged reading) ≡ None
 may_start p i k id ad s judged reading rests jobs_once slots_once job slot of_job of_slot at =
-    let is = stands_idle p.jobs i id ad jobs_once job in
-    rw (rests.is_open, rests.no_runs, is.there, is.idle, slot_stands p.slots k s slots_once slot, eq-eqb judged.at reading at, same_ad-same judged.job is.job.ad (of_job ∙ sym is.ad_is), same_ad-same judged.slot s.ad of_slot) refl
+    starts_idle p k id ad s judged reading rests (stands_idle p.jobs i id ad jobs_once job) slots_once slot of_job of_slot at
 
 pub may_close : (p : PoolValue) (none : Mismatch) (reading : ℕ) → IsResting p → none.jobs ≡ idle_ads p.jobs → none.slots ≡ slot_ads p.slots → none.at ≡ reading → refusal p (Close reading none) ≡ None
 may_close p none reading rests jobs slots at =

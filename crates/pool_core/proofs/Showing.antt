@@ -54,7 +54,7 @@ ended_adds p job end reading run is has =
 
 adds : (p : PoolValue) (e : Event) → IsConsistent p → open_refusal p e ≡ None → Adds p e (pool_after p e)
 adds p (Submit jobs reading) is ok = record {
-  submitted = map-append (λ e. e.1.ad) p.jobs (numbered_jobs (p.clusters + 1) 0 jobs) ∙ ap (λ l. ads_of p.jobs ++ l) (ads_numbered (p.clusters + 1) 0 jobs ∙ sym (append-nil jobs));
+  submitted = map-append (λ e. e.1.ad) p.jobs (numbered_jobs (p.last_cluster + 1) 0 jobs) ∙ ap (λ l. ads_of p.jobs ++ l) (ads_numbered (p.last_cluster + 1) 0 jobs ∙ sym (append-nil jobs));
   launched = omega arith;
   ended = omega arith;
 }

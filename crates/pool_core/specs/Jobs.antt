@@ -1,5 +1,5 @@
 -- What a caller reads of a pool's jobs.
-use Rattle.std.specs.Prelude.{Bool, true, false, not, List, Option, Some, None, if◌then◌else◌}
+use Rattle.std.specs.Prelude.{ℕ, Bool, true, false, not, List, slice_get, Option, Some, None, if◌then◌else◌}
 use Rattle.std.specs.List.{filter_map, list_any}
 use Rattle.ad_tree.specs.Ad.{Attributes}
 use Rattle.pool_core.specs.declared.job.Job.{Job}
@@ -10,6 +10,14 @@ use Rattle.pool_core.specs.PoolValue.{is_idle}
 
 abbrev pub idle_job : JobId × Job → Option (JobId × Attributes)
 idle_job e = if is_idle e.1.phase then Some (e.0, e.1.ad) else None
+
+abbrev pub idle_in : Option (JobId × Job) → Option (JobId × Attributes)
+idle_in None = None
+idle_in (Some e) = idle_job e
+
+-- the job that was submitted at that place, where it is idle
+abbrev pub idle_at : ℕ → List (JobId × Job) → Option (JobId × Attributes)
+idle_at place jobs = idle_in (slice_get jobs place)
 
 -- the idle jobs with their ads, in the order of their submission
 abbrev pub idle_jobs : List (JobId × Job) → List (JobId × Attributes)

@@ -13,5 +13,6 @@ pub mod Histories
 pub mod CourseValue
 pub mod View
 pub mod Sound
+pub mod Pairs
 pub mod Resting
 pub mod Moving

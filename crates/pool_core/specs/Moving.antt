@@ -16,7 +16,7 @@ use Rattle.pool_core.specs.AbstractPool.{Held, EndedBy}
 use Rattle.pool_core.specs.AbstractStep.{AbstractStep, Time, Queue, Acknowledge, Grant, Start, Stop, Free, Finish, Takes}
 use Rattle.pool_core.specs.Events.{reading_of}
 use Rattle.pool_core.specs.PoolValue.{PoolValue, job_at, run_at}
-use Rattle.pool_core.specs.Reactions.{numbered_jobs, run_named, run_of_job, pool_after}
+use Rattle.pool_core.specs.Reactions.{next_cluster, numbered_jobs, run_named, run_of_job, pool_after}
 use Rattle.pool_core.specs.Safe.{Safe}
 use Rattle.pool_core.specs.View.{run_no, how_of, run_of, marks_after, view_of}
 
@@ -59,7 +59,7 @@ end_steps p job end (Some run) = stop_steps run.slot end (run_at run.slot p.runs
 
 -- the steps of an event, but for the time
 abbrev pub own_steps : PoolValue → Event → List AbstractStep
-own_steps p (event.Submit jobs reading) = submit_steps (numbered_jobs (p.clusters + 1) 0 jobs)
+own_steps p (event.Submit jobs reading) = submit_steps (numbered_jobs (next_cluster p) 0 jobs)
 own_steps p (event.Start job slot judged reading) = start_steps p job slot judged reading
 own_steps p (event.Ended job end reading) = end_steps p job end (run_of_job (job_at job p.jobs))
 own_steps p (event.Close reading none) = []

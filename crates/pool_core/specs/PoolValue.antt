@@ -1,9 +1,9 @@
 -- What is seen of a pool.
-use Rattle.std.specs.Prelude.{◌≡◌, ℕ, ◌≤◌, Bool, true, false, List, [], ◌∷◌, length, count_by, not, Option, Some, None, IsSome, IsSomeAnd, IfSome, if◌then◌else◌}
+use Rattle.std.specs.Prelude.{◌≡◌, ℕ, ◌+◌, ◌≤◌, Bool, true, false, List, [], ◌∷◌, length, count_by, not, Option, Some, None, IsSome, IsSomeAnd, IfSome, if◌then◌else◌}
 use Rattle.pool_core.specs.declared.numbers.JobId.{JobId}
 use Rattle.pool_core.specs.declared.numbers.SlotId.{SlotId}
 use Rattle.pool_core.specs.declared.job.Job.{Job}
-use Rattle.pool_core.specs.declared.job.TheConstants.{MAX_JOBS}
+use Rattle.pool_core.specs.declared.job.TheConstants.{MAX_JOBS, LAST_CLUSTER_WITHOUT_JOBS}
 use Rattle.pool_core.specs.declared.job.Phase.{Phase}
 use Rattle.pool_core.specs.declared.job.Phase.TheVariants.{Idle, Running, Held, Finished}
 use Rattle.pool_core.specs.declared.job.SlotRun.{SlotRun}
@@ -14,18 +14,18 @@ pub record PoolValue : Type 0 where
   pub slots : List SlotAd
   pub jobs : List (JobId × Job)  -- in the order in which they were submitted
   pub runs : List (SlotId × SlotRun)  -- of the slots that have one
-  pub clusters : ℕ  -- how many submissions had jobs
+  pub last_cluster : ℕ  -- the number of the last submission's cluster, 0 at first
   pub started : ℕ  -- how many runs were started
   pub latest : ℕ  -- the greatest reading, 0 at first
   pub closed : Bool
 
 abbrev pub pool_value : List SlotAd → List (JobId × Job) → List (SlotId × SlotRun) → ℕ → ℕ → ℕ
     → Bool → PoolValue
-pool_value slots jobs runs clusters started latest closed = record {
+pool_value slots jobs runs last_cluster started latest closed = record {
   slots = slots;
   jobs = jobs;
   runs = runs;
-  clusters = clusters;
+  last_cluster = last_cluster;
   started = started;
   latest = latest;
   closed = closed;
@@ -84,8 +84,8 @@ pub record IsConsistent (p : PoolValue) : Type 0 where
   pub placed : (slot : SlotId) → IsSome (run_at slot p.runs) → IsSome (slot_at slot p.slots)
   pub few : length p.jobs ≤ MAX_JOBS
   -- clusters are numbered from 1, in the order of their submission
-  pub clusters_few : p.clusters ≤ length p.jobs
-  pub numbered : (job : JobId) → IsSome (job_at job p.jobs) → job.cluster ≤ p.clusters
+  pub last_cluster_few : p.last_cluster ≤ LAST_CLUSTER_WITHOUT_JOBS + length p.jobs
+  pub numbered : (job : JobId) → IsSome (job_at job p.jobs) → job.cluster ≤ p.last_cluster
   -- each job starts once at most
   pub counted : p.started ≡ count_by has_started p.jobs
   pub run_numbers : (slot : SlotId) → IfSome (run_at slot p.runs) (λ r. r.number ≤ p.started)

@@ -1,12 +1,9 @@
 -- Which events a pool accepts, what it answers, and what they change.
 use Rattle.std.specs.Prelude.{ℕ, ◌+◌, List, [], ◌∷◌, ◌++◌, length, map, Bool, true, false, not, ◌&&◌, ◌||◌, ◌==◌, nat_lt, max, if◌then◌else◌, Option, Some, None, is_some}
 use Rattle.std.specs.List.{filter_map}
-use Rattle.ad_value.specs.Content.{text}
-use Rattle.ad_names.specs.declared.job.TheConstants.{CMD, IWD, IN, OUT, ERR}
-use Rattle.ad_tree.specs.Ad.{Attributes, lookup}
-use Rattle.ad_tree.specs.Tree.{Tree, literal}
+use Rattle.ad_tree.specs.Ad.{Attributes}
 use Rattle.ad_eval.specs.Judgement.{Judgement, Mismatch}
-use Rattle.pool_outer.specs.declared.spawner.Launch.{Launch}
+use Rattle.job_launch.specs.Launches.{launch_of}
 use Rattle.pool_core.specs.declared.answer.Answer.{Answer}
 use Rattle.pool_core.specs.declared.answer.Answer.TheVariants as answer
 use Rattle.pool_core.specs.declared.answer.StepError.{StepError}
@@ -16,7 +13,7 @@ use Rattle.pool_core.specs.declared.event.End.TheVariants.{Exited, Signalled, No
 use Rattle.pool_core.specs.declared.event.Event.{Event}
 use Rattle.pool_core.specs.declared.event.Event.TheVariants.{Submit, Start, Ended, Close}
 use Rattle.pool_core.specs.declared.job.Job.{Job}
-use Rattle.pool_core.specs.declared.job.TheConstants.{MAX_JOBS}
+use Rattle.pool_core.specs.declared.job.TheConstants.{MAX_JOBS, LAST_CLUSTER_WITHOUT_JOBS}
 use Rattle.pool_core.specs.declared.job.Phase.{Phase}
 use Rattle.pool_core.specs.declared.job.Phase.TheVariants.{Idle, Running, Held, Finished}
 use Rattle.pool_core.specs.declared.job.SlotRun.{SlotRun}
@@ -34,7 +31,7 @@ opening_pool slots = record {
   slots = slots;
   jobs = [];
   runs = [];
-  clusters = 0;
+  last_cluster = 0;
   started = 0;
   latest = 0;
   closed = false;
@@ -116,26 +113,6 @@ refusal p ev = if p.closed then Some Closed else open_refusal p ev
 
 -- ---- what is answered
 
--- an attribute's string; one that isn't there, or is no literal string, counts as empty
-abbrev pub string_in : Option Tree → List ℕ
-string_in (Some (literal (text s))) = s
-string_in _ = []
-
-abbrev pub string_of : Attributes → List ℕ → List ℕ
-string_of ad name = string_in (lookup name ad)
-
--- what a job is started with (HTCondor manual, Job ClassAd Attributes, Cmd, Iwd, In, Out, Err); it
--- gets no words yet
-abbrev pub launch_of : Attributes → Launch
-launch_of ad = record {
-  program = string_of ad CMD.now;
-  words = [];
-  folder = string_of ad IWD.now;
-  input = string_of ad IN.now;
-  output = string_of ad OUT.now;
-  errors = string_of ad ERR.now;
-}
-
 -- what the pool answers to an event that it accepts
 abbrev pub answer_to : PoolValue → Event → Answer
 answer_to p (Submit jobs reading) = answer.Done
@@ -152,10 +129,19 @@ numbered_jobs cluster proc (ad ∷ ads) =
     (record { cluster = cluster; proc = proc }, record { ad = ad; phase = Idle }) ∷ numbered_jobs
     cluster (proc + 1) ads
 
--- a submission with jobs is one more cluster
-abbrev pub clusters_after : ℕ → List Attributes → ℕ
-clusters_after clusters [] = clusters
-clusters_after clusters (ad ∷ ads) = clusters + 1
+-- the number of the cluster that the next submission is
+abbrev pub next_cluster : PoolValue → ℕ
+next_cluster p = p.last_cluster + 1
+
+-- A submission takes the next number, whether it has jobs or not; but the last numbers of all are
+-- left for submissions that have some.
+abbrev pub takes_number : ℕ → List Attributes → Bool
+takes_number last [] = nat_lt last LAST_CLUSTER_WITHOUT_JOBS
+takes_number last (ad ∷ ads) = true
+
+-- the number of the last cluster, once these jobs were submitted
+abbrev pub last_cluster_after : ℕ → List Attributes → ℕ
+last_cluster_after last ads = if takes_number last ads then last + 1 else last
 
 -- the first job of that number stands so
 abbrev pub with_phase : JobId → Phase → List (JobId × Job) → List (JobId × Job)
@@ -178,8 +164,8 @@ run_named slot number = record { slot = slot; number = number }
 
 abbrev pub with_jobs : PoolValue → List Attributes → PoolValue
 with_jobs p ads = record p {
-  jobs = p.jobs ++ numbered_jobs (p.clusters + 1) 0 ads;
-  clusters = clusters_after p.clusters ads;
+  jobs = p.jobs ++ numbered_jobs (next_cluster p) 0 ads;
+  last_cluster = last_cluster_after p.last_cluster ads;
 }
 
 -- its lease ends at the reading

@@ -15,8 +15,8 @@ pub enum End {
 
 /// What happens in a pool. A reading is in seconds since 1970-01-01 00:00:00 UTC.
 pub enum Event {
-    /// Jobs are submitted, as one cluster of the next number, where there are any; procs count from
-    /// 0.
+    /// Jobs are submitted, as one cluster of the next number, also where there are none; procs
+    /// count from 0.
     Submit {
         jobs: AdList,
         reading: u64,

@@ -20,6 +20,10 @@ pub struct RunName {
 /// How many jobs a pool takes, over all its submissions.
 pub const MAX_JOBS: usize = 10_000;
 
+/// The last number that a submission without jobs takes for its cluster; after it there are as many
+/// as jobs can use. The last cluster of all is 4294967294.
+pub const LAST_CLUSTER_WITHOUT_JOBS: u32 = 4_294_957_293;
+
 /// How a job stands (HTCondor manual, Job ClassAd Attributes, JobStatus: Idle, Running, Held,
 /// Completed). A job that could not be started is held.
 #[derive(Clone, Copy, Debug)]

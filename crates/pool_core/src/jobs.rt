@@ -3,7 +3,7 @@ ghost use Rattle.std.specs.Option.{option_map};
 ghost use Rattle.indexmap.specs.IndexMap.{spare};
 ghost use Rattle.pool_core.specs.PoolValue.{HasKeysOnce, job_at};
 ghost use Rattle.pool_core.specs.Numbers.{same_job};
-ghost use Rattle.pool_core.specs.Jobs.{idle_jobs, has_unfinished};
+ghost use Rattle.pool_core.specs.Jobs.{idle_at, idle_jobs, has_unfinished};
 ghost use Rattle.pool_core.specs.Reactions.{idle_ads, numbered_jobs, with_phase};
 
 use crate::ads::after_first;
@@ -62,6 +62,18 @@ pub(crate) fn idle_job(jobs: &JobTable, place: usize) -> Option<(JobId, &Ad)>
         left -= 1;
     }
     None
+}
+
+// The job at a place among all, where it is idle.
+pub(crate) fn idle_at(jobs: &JobTable, place: usize) -> Option<(JobId, &Ad)>
+    ensures { option_map (λ e. (e.0, e.1.now)) result ≡ idle_at place jobs.now.entries }
+{
+    let (id, job) = jobs.get_index(place)?;
+    if job.phase.is_idle() {
+        Some((*id, &job.ad))
+    } else {
+        None
+    }
 }
 
 pub(crate) fn has_unfinished(jobs: &JobTable) -> bool

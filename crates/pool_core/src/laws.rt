@@ -1,12 +1,13 @@
 //! What holds of every history, and of every abstract pool.
 
-ghost use Rattle.std.specs.Prelude.{◌≡◌, ◌<◌, ℕ, List, [], ◌∷◌, ◌++◌, None};
+ghost use Rattle.std.specs.Prelude.{◌≡◌, ◌<◌, ℕ, List, [], ◌∷◌, ◌++◌, None, IsSome};
+ghost use Rattle.ad_eval.specs.Judgement.{Judgement};
 ghost use Rattle.pool_core.specs.declared.event.End.{End};
 ghost use Rattle.pool_core.specs.declared.event.Event.{Event};
-ghost use Rattle.pool_core.specs.declared.event.Event.TheVariants.{Ended};
+ghost use Rattle.pool_core.specs.declared.event.Event.TheVariants.{Start, Ended};
 ghost use Rattle.pool_core.specs.declared.history.Step.{Step};
 ghost use Rattle.pool_core.specs.declared.slot.SlotAd.{SlotAd};
-ghost use Rattle.pool_core.specs.PoolValue.{PoolValue, IsConsistent};
+ghost use Rattle.pool_core.specs.PoolValue.{PoolValue, IsConsistent, slot_at};
 ghost use Rattle.pool_core.specs.Reactions.{opening_pool, refusal, pool_after};
 ghost use Rattle.pool_core.specs.Histories.{Reacts, LeadsTo, Shows};
 ghost use Rattle.pool_core.specs.Ads.{Core};
@@ -46,6 +47,17 @@ pub fn runs_end_in_rest()
         → IsResting (pool_after q (Ended job end late))) }
     ensures fewer { StartsThen (λ p q job. (end : End) (late : ℕ)
         → idle_count (pool_after q (Ended job end late)) < idle_count p) }
+{}
+
+/// A slot whose start a pool accepts is one of its slots.
+pub fn starts_are_placed()
+    ensures { (p : PoolValue) (job : JobId) (slot : SlotId) (judged : Judgement) (reading : ℕ)
+        → refusal p (Start job slot judged reading) ≡ None → IsSome (slot_at slot p.slots) }
+{}
+
+/// No event changes a pool's slots.
+pub fn events_keep_slots()
+    ensures { (p : PoolValue) (ev : Event) → (pool_after p ev).slots ≡ p.slots }
 {}
 
 /// An event that a pool accepts makes the abstract steps named for it.

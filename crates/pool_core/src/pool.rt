@@ -7,16 +7,15 @@ ghost use Rattle.pool_core.specs.Moving.{steps_of};
 ghost use Rattle.pool_core.specs.PoolValue.{AreNumberedOnce, job_at, run_at, slot_at};
 ghost use Rattle.pool_core.specs.Sound.{IsSound};
 ghost use Rattle.pool_core.specs.View.{view_of};
-ghost use Rattle.pool_core.specs.Jobs.{idle_jobs, has_unfinished};
+ghost use Rattle.pool_core.specs.Jobs.{idle_at, idle_jobs, has_unfinished};
 ghost use Rattle.pool_core.specs.Sameness.{same_ads};
-ghost use Rattle.pool_core.specs.Reactions.{opening_pool, refusal, start_refusal, close_refusal, is_idle_job, is_judged, is_settled, run_of_job, answer_to, clusters_after, phase_after, pool_after, idle_ads, slot_ads};
+ghost use Rattle.pool_core.specs.Reactions.{opening_pool, refusal, start_refusal, close_refusal, is_idle_job, is_judged, is_settled, run_of_job, answer_to, last_cluster_after, next_cluster, takes_number, phase_after, pool_after, idle_ads, slot_ads};
 
 use crate::ads::is_same;
 use crate::answer::{Answer, StepError, Stepped};
 use crate::event::{End, Event};
-use crate::job::{Job, MAX_JOBS, Phase, RunName, SlotRun};
+use crate::job::{Job, LAST_CLUSTER_WITHOUT_JOBS, MAX_JOBS, Phase, RunName, SlotRun};
 use crate::jobs::{self, JobTable};
-use crate::launching::launch_of;
 use crate::numbers::{JobId, SlotId};
 use crate::runs::{RunTable, add_run, copy_runs, remove_run};
 use crate::slot::{self, SlotAdList};
@@ -24,6 +23,7 @@ use ad_eval::{Judged, NoMatch};
 use ad_tree::{Ad, AdList};
 use ad_value::{Copied, Memory};
 use indexmap::IndexMap;
+use job_launch::launch_of;
 use std::alloc::Global;
 use std::marker::Model;
 
@@ -32,7 +32,7 @@ pub struct Pool {
     slots: SlotAdList,
     jobs: JobTable,
     runs: RunTable,
-    clusters: u32,
+    last_cluster: u32,
     started: u64,
     latest: u64,
     closed: bool,
@@ -44,7 +44,7 @@ impl Drop for Pool {
             slots: _slots,
             jobs: _jobs,
             runs: _runs,
-            clusters: _,
+            last_cluster: _,
             started: _,
             latest: _,
             closed: _,
@@ -65,11 +65,11 @@ impl Model for Pool {
     ghost coded = { Prim.hlevel
         (codes, slot_ad.the_row.coded, job.the_row.coded, run.the_row.coded) };
 
-    ghost view = { λ p. pool_value p.slots p.jobs.entries p.runs.entries p.clusters p.started
+    ghost view = { λ p. pool_value p.slots p.jobs.entries p.runs.entries p.last_cluster p.started
         p.latest p.closed };
 
-    ghost invariant = { λ p. IsSound (pool_value p.slots p.jobs.entries p.runs.entries p.clusters
-        p.started p.latest p.closed) };
+    ghost invariant = { λ p. IsSound (pool_value p.slots p.jobs.entries p.runs.entries
+        p.last_cluster p.started p.latest p.closed) };
 }
 
 impl Pool {
@@ -83,7 +83,7 @@ impl Pool {
             slots,
             jobs: IndexMap::new(alloc),
             runs: IndexMap::new(alloc),
-            clusters: 0,
+            last_cluster: 0,
             started: 0,
             latest: 0,
             closed: false,
@@ -127,6 +127,13 @@ impl Pool {
         self.jobs.len()
     }
 
+    /// The number of the cluster that the next submission is. Computes in O(1).
+    pub fn next_cluster(&self) -> u32
+        ensures { result ≡ next_cluster self.now }
+    {
+        self.last_cluster + 1
+    }
+
     /// Copies of the ads of the idle jobs, in the order of their submission. Computes in O(jobs),
     /// and in O(size of the ads).
     pub fn idle_ads(&self, alloc: Global) -> Result<AdList, Memory>
@@ -141,6 +148,13 @@ impl Pool {
             place }
     {
         jobs::idle_job(&self.jobs, place)
+    }
+
+    /// The job that was submitted at a place, from 0, where it is idle. Computes in O(1).
+    pub fn idle_at(&self, place: usize) -> Option<(JobId, &Ad)>
+        ensures { option_map (λ e. (e.0, e.1.now)) result ≡ idle_at place self.now.jobs }
+    {
+        jobs::idle_at(&self.jobs, place)
     }
 
     /// Copies of the slots' ads. Computes in O(size of the ads).
@@ -179,7 +193,7 @@ impl Copied for Pool {
             slots: self.slots.copy(alloc)?,
             jobs: jobs::copy_jobs(alloc, &self.jobs)?,
             runs: copy_runs(alloc, &self.runs)?,
-            clusters: self.clusters,
+            last_cluster: self.last_cluster,
             started: self.started,
             latest: self.latest,
             closed: self.closed,
@@ -379,11 +393,12 @@ impl Pool {
         ensures ok { OnOk result (self.new ≡ pool_after self.old (Submit ads.now reading)) }
         ensures err { OnErr result (self.new ≡ self.old) }
     {
-        let clusters = clusters_after(self.clusters, ads);
+        let cluster = self.next_cluster();
+        let last_cluster = last_cluster_after(self.last_cluster, ads);
         let ads = ads.copy(alloc)?;
         self.jobs.reserve(ads.len())?;
-        jobs::add_jobs(&mut self.jobs, self.clusters + 1, ads.into_vec());
-        self.clusters = clusters;
+        jobs::add_jobs(&mut self.jobs, cluster, ads.into_vec());
+        self.last_cluster = last_cluster;
         self.latest = self.latest.max(reading);
         Ok(())
     }
@@ -430,16 +445,22 @@ impl Pool {
     }
 }
 
-// How many submissions had jobs, with one more.
-fn clusters_after(clusters: u32, ads: &AdList) -> u32
-    requires { clusters + 1 < 2 ^ 32 }
-    ensures { result ≡ clusters_after clusters ads.now }
+// The number of the last cluster, with one more submission.
+fn last_cluster_after(last: u32, ads: &AdList) -> u32
+    requires { last + 1 < 2 ^ 32 }
+    ensures { result ≡ last_cluster_after last ads.now }
 {
-    if ads.is_empty() {
-        clusters
+    if takes_number(last, ads) {
+        last + 1
     } else {
-        clusters + 1
+        last
     }
+}
+
+fn takes_number(last: u32, ads: &AdList) -> bool
+    ensures { result ≡ takes_number last ads.now }
+{
+    !ads.is_empty() || last < LAST_CLUSTER_WITHOUT_JOBS
 }
 
 fn phase_after(run: RunName, end: End) -> Phase

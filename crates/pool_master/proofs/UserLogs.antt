@@ -1,5 +1,5 @@
 -- The user log, event by event.
-use Rattle.std.proofs.Common.{◌≡◌, ◌∙◌, ℕ, zero, suc, ◌+◌, ◌-◌, ◌<◌, ◌≤◌, Bool, true, false, List, [], ◌∷◌, ◌++◌, length, Option, Some, None, refl, sym, ap, subst, arith, append_assoc, codes}
+use Rattle.std.proofs.Common.{◌≡◌, ◌∙◌, ℕ, zero, suc, ◌+◌, ◌-◌, ◌<◌, ◌≤◌, Bool, true, false, List, [], ◌∷◌, ◌++◌, length, Option, Some, None, if◌then◌else◌, refl, sym, ap, subst, arith, append_assoc, codes}
 use Rattle.std.proofs.lemmas.List.{append-nil}
 use Rattle.std.specs.List.{All}
 use Rattle.jiff.specs.Words.{date_text, time_text}
@@ -14,16 +14,16 @@ use Rattle.pool_core.specs.declared.numbers.JobId.{JobId}
 use Rattle.pool_core.specs.declared.slot.SlotAd.{SlotAd}
 use Rattle.ad_tree.specs.Ad.{Attributes}
 use Rattle.pool_core.specs.PoolValue.{PoolValue}
-use Rattle.pool_core.specs.Reactions.{clusters_after}
-use Rattle.pool_master.specs.UserLog.{IsStamp, IsEntry, AreEntries, IsSubmitLines, IsStartLines, IsEndLines, IsLines, ArePrinted, IsLogOf, never_starts, numbers_text, submitted_text, submission_text, clusters_with}
+use Rattle.pool_core.specs.Reactions.{takes_number, last_cluster_after}
+use Rattle.pool_master.specs.UserLog.{IsStamp, IsEntry, AreEntries, IsSubmitLines, IsStartLines, IsEndLines, IsLines, ArePrinted, IsLogOf, never_starts, numbers_text, submitted_text, submission_text, last_cluster_with}
 
 -- one event more
-pub prints_on : (slots : List SlotAd) (start clusters after_it : ℕ) (all rest after : List Step) (step : Step) (text new first : List ℕ) → rest ≡ step ∷ after → IsLines slots clusters after step.event first → after_it ≡ clusters_with clusters step.event → new ≡ text ++ first → ((more : List ℕ) → ArePrinted slots clusters rest more → ArePrinted slots start all (text ++ more)) → (more : List ℕ) → ArePrinted slots after_it after more → ArePrinted slots start all (new ++ more)
-prints_on slots start clusters after_it all rest after step text new first is printed count grown so_far more later =
+pub prints_on : (slots : List SlotAd) (start last after_it : ℕ) (all rest after : List Step) (step : Step) (text new first : List ℕ) → rest ≡ step ∷ after → IsLines slots last after step.event first → after_it ≡ last_cluster_with last step.event → new ≡ text ++ first → ((more : List ℕ) → ArePrinted slots last rest more → ArePrinted slots start all (text ++ more)) → (more : List ℕ) → ArePrinted slots after_it after more → ArePrinted slots start all (new ++ more)
+prints_on slots start last after_it all rest after step text new first is printed count grown so_far more later =
     rw (grown, append_assoc) (so_far (first ++ more) (rw is (first, more, refl, printed, rw count at later)))
 
-pub prints_all : (slots : List SlotAd) (start clusters : ℕ) (all rest : List Step) (text : List ℕ) → rest ≡ [] → ((more : List ℕ) → ArePrinted slots clusters rest more → ArePrinted slots start all (text ++ more)) → ArePrinted slots start all text
-prints_all slots start clusters all rest text is so_far = let whole = so_far [] (rw is refl) in rw append-nil at whole
+pub prints_all : (slots : List SlotAd) (start last : ℕ) (all rest : List Step) (text : List ℕ) → rest ≡ [] → ((more : List ℕ) → ArePrinted slots last rest more → ArePrinted slots start all (text ++ more)) → ArePrinted slots start all text
+prints_all slots start last all rest text is so_far = let whole = so_far [] (rw is refl) in rw append-nil at whole
 
 -- one entry of a submission more
 pub enters_on : (cluster count reading proc : ℕ) (text new first : List ℕ) → proc < count → IsEntry (codes "000") cluster proc reading submitted_text first → new ≡ text ++ first → ((more : List ℕ) → AreEntries cluster proc (count - proc) reading more → AreEntries cluster 0 count reading (text ++ more)) → (more : List ℕ) → AreEntries cluster (proc + 1) (count - (proc + 1)) reading more → AreEntries cluster 0 count reading (new ++ more)
@@ -41,16 +41,19 @@ none_left (s ∷ ss) none = absurd (omega arith)
 pub all_behind : (P : Step → Type 0) (rest after : List Step) (step : Step) → rest ≡ step ∷ after → All P rest → All P after
 all_behind P rest after step is all = λ k d h. let whole : All P (step ∷ after) = subst (All P) is all in whole (suc k) d (omega arith)
 
-more_with : (clusters : ℕ) (ads : List Attributes) → clusters_after clusters ads ≤ clusters + 1
-more_with clusters [] = omega arith
-more_with clusters (ad ∷ ads) = omega arith
+more_with : (last : ℕ) (ads : List Attributes) → last_cluster_after last ads ≤ last + 1
+more_with last ads = by_test (takes_number last ads)
+  where
+    by_test : (b : Bool) → (if b then last + 1 else last) ≤ last + 1
+    by_test true = omega arith
+    by_test false = omega arith
 
 -- an event is one more cluster at most
-pub no_more_clusters : (clusters : ℕ) (ev : Event) → clusters_with clusters ev ≤ clusters + 1
-no_more_clusters clusters (Submit jobs reading) = more_with clusters jobs
-no_more_clusters clusters (Start job slot judged reading) = omega arith
-no_more_clusters clusters (Ended job end reading) = omega arith
-no_more_clusters clusters (Close reading none) = omega arith
+pub last_cluster_grows : (last : ℕ) (ev : Event) → last_cluster_with last ev ≤ last + 1
+last_cluster_grows last (Submit jobs reading) = more_with last jobs
+last_cluster_grows last (Start job slot judged reading) = omega arith
+last_cluster_grows last (Ended job end reading) = omega arith
+last_cluster_grows last (Close reading none) = omega arith
 
 -- The text is determined by the history.
 
@@ -85,17 +88,17 @@ same_end_lines (Exited code) job reading a b x y = same_entry _ job.cluster job.
 same_end_lines (Signalled signal) job reading a b x y = same_entry _ job.cluster job.proc reading _ a b x y
 same_end_lines NotStarted job reading a b x y = same_entry _ job.cluster job.proc reading _ a b x y
 
-same_lines : (slots : List SlotAd) (clusters : ℕ) (behind : List Step) (ev : Event) (a b : List ℕ) → IsLines slots clusters behind ev a → IsLines slots clusters behind ev b → a ≡ b
-same_lines slots clusters behind (Submit jobs reading) a b x y = same_submit_lines (clusters + 1) (length jobs) reading a b x y
-same_lines slots clusters behind (Start job slot judged reading) a b x y = same_start_lines (never_starts job behind) job _ reading a b x y
-same_lines slots clusters behind (Ended job end reading) a b x y = same_end_lines end job reading a b x y
-same_lines slots clusters behind (Close reading none) a b x y = x ∙ sym y
+same_lines : (slots : List SlotAd) (last : ℕ) (behind : List Step) (ev : Event) (a b : List ℕ) → IsLines slots last behind ev a → IsLines slots last behind ev b → a ≡ b
+same_lines slots last behind (Submit jobs reading) a b x y = same_submit_lines (last + 1) (length jobs) reading a b x y
+same_lines slots last behind (Start job slot judged reading) a b x y = same_start_lines (never_starts job behind) job _ reading a b x y
+same_lines slots last behind (Ended job end reading) a b x y = same_end_lines end job reading a b x y
+same_lines slots last behind (Close reading none) a b x y = x ∙ sym y
 
-same_printed : (slots : List SlotAd) (clusters : ℕ) (steps : List Step) (a b : List ℕ) → ArePrinted slots clusters steps a → ArePrinted slots clusters steps b → a ≡ b
-same_printed slots clusters [] a b x y = x ∙ sym y
-same_printed slots clusters (s ∷ ss) a b x y =
-    let first : x.0 ≡ y.0 = same_lines slots clusters ss s.event x.0 y.0 x.3 y.3 in
-    let rest : x.1 ≡ y.1 = same_printed slots (clusters_with clusters s.event) ss x.1 y.1 x.4 y.4 in
+same_printed : (slots : List SlotAd) (last : ℕ) (steps : List Step) (a b : List ℕ) → ArePrinted slots last steps a → ArePrinted slots last steps b → a ≡ b
+same_printed slots last [] a b x y = x ∙ sym y
+same_printed slots last (s ∷ ss) a b x y =
+    let first : x.0 ≡ y.0 = same_lines slots last ss s.event x.0 y.0 x.3 y.3 in
+    let rest : x.1 ≡ y.1 = same_printed slots (last_cluster_with last s.event) ss x.1 y.1 x.4 y.4 in
     x.2 ∙ (ap (λ (t : List ℕ). t ++ x.1) first ∙ (ap (λ (t : List ℕ). y.0 ++ t) rest ∙ sym y.2))
 
 pub same_log : (opening : Option PoolValue) (steps : List Step) (a b : List ℕ) → IsLogOf opening steps a → IsLogOf opening steps b → a ≡ b

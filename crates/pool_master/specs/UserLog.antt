@@ -14,7 +14,7 @@ use Rattle.pool_core.specs.declared.numbers.SlotId.{SlotId}
 use Rattle.pool_core.specs.declared.slot.SlotAd.{SlotAd}
 use Rattle.pool_core.specs.Numbers.{same_job}
 use Rattle.pool_core.specs.PoolValue.{PoolValue, slot_at}
-use Rattle.pool_core.specs.Reactions.{clusters_after}
+use Rattle.pool_core.specs.Reactions.{last_cluster_after}
 use Rattle.pool_master.specs.Runs.{is_not_started}
 
 abbrev pub nanos_per_second : ℤ
@@ -112,29 +112,29 @@ IsEndLines (Signalled signal) job reading text =
 IsEndLines NotStarted job reading text =
     IsEntry (codes "012") job.cluster job.proc reading held_text text
 
--- what an event prints in a pool of these slots, before which so many clusters were submitted, and
--- after which these steps come
+-- what an event prints in a pool of these slots, where the last cluster before it has that number
+-- and these steps come after it
 abbrev pub IsLines : List SlotAd → ℕ → List Step → Event → List ℕ → Type 0
-IsLines slots clusters after (Submit jobs reading) text =
-    IsSubmitLines (clusters + 1) (length jobs) reading text
-IsLines slots clusters after (Start job slot judged reading) text =
+IsLines slots last after (Submit jobs reading) text =
+    IsSubmitLines (last + 1) (length jobs) reading text
+IsLines slots last after (Start job slot judged reading) text =
     IsStartLines (never_starts job after) job (slot_name_at slots slot) reading text
-IsLines slots clusters after (Ended job end reading) text = IsEndLines end job reading text
-IsLines slots clusters after (Close reading none) text = text ≡ []
+IsLines slots last after (Ended job end reading) text = IsEndLines end job reading text
+IsLines slots last after (Close reading none) text = text ≡ []
 
--- how many clusters were submitted, with an event
-abbrev pub clusters_with : ℕ → Event → ℕ
-clusters_with clusters (Submit jobs reading) = clusters_after clusters jobs
-clusters_with clusters (Start job slot judged reading) = clusters
-clusters_with clusters (Ended job end reading) = clusters
-clusters_with clusters (Close reading none) = clusters
+-- the number of the last cluster, after an event
+abbrev pub last_cluster_with : ℕ → Event → ℕ
+last_cluster_with last (Submit jobs reading) = last_cluster_after last jobs
+last_cluster_with last (Start job slot judged reading) = last
+last_cluster_with last (Ended job end reading) = last
+last_cluster_with last (Close reading none) = last
 
 -- what these events print, one after the other
 abbrev pub ArePrinted : List SlotAd → ℕ → List Step → List ℕ → Type 0
-ArePrinted slots clusters [] text = text ≡ []
-ArePrinted slots clusters (s ∷ ss) text = (first rest : List ℕ) × (text ≡ first ++ rest)
-    × IsLines slots clusters ss s.event first
-    × ArePrinted slots (clusters_with clusters s.event) ss rest
+ArePrinted slots last [] text = text ≡ []
+ArePrinted slots last (s ∷ ss) text = (first rest : List ℕ) × (text ≡ first ++ rest)
+    × IsLines slots last ss s.event first
+    × ArePrinted slots (last_cluster_with last s.event) ss rest
 
 abbrev pub IsLogOf : Option PoolValue → List Step → List ℕ → Type 0
 IsLogOf None steps text = text ≡ []

@@ -78,7 +78,8 @@ fn submit<C: Clock>(
     Ok(())
 }
 
-// Runs idle jobs that match a slot until there is none, and closes the pool.
+// Runs each idle job that matches a slot, in order, again and again until none does, and closes the
+// pool.
 fn serve<R: Wait, C: Clock, P: Spawner>(
     rt: &R,
     alloc: Global,
@@ -101,6 +102,7 @@ fn serve<R: Wait, C: Clock, P: Spawner>(
     ensures opening { course.new.opening ≡ course.old.opening }
 {
     'turns: loop {
+        run_each(rt, alloc, course, clock, spawner)?;
         let reading = clock.read();
         match course.pool().next(alloc, reading)? {
             Next::Close { none } => {
@@ -109,6 +111,76 @@ fn serve<R: Wait, C: Clock, P: Spawner>(
             }
             Next::Start { pair } => run_job(rt, alloc, course, clock, spawner, pair, reading)?,
         }
+    }
+}
+
+// Runs each idle job that matches a slot when its turn comes, in order.
+fn run_each<R: Wait, C: Clock, P: Spawner>(
+    rt: &R,
+    alloc: Global,
+    course: &mut Course,
+    clock: &C,
+    spawner: &mut P,
+) -> Result<(), Memory>
+    requires resting { IsResting course.old.pool }
+    requires between { IsBetween
+        (spawner_seen P.tells P.count P.launches P.seen P.killed P.faults spawner.old)
+        course.old.list }
+
+    // The history.
+    ensures follows { FollowsOn (C.allows clock.now)
+        (spawner_seen P.tells P.count P.launches P.seen P.killed P.faults) spawner.old spawner.new
+        course.old.list course.new.list }
+    ensures between { OnOk result (IsBetween
+        (spawner_seen P.tells P.count P.launches P.seen P.killed P.faults spawner.new)
+        course.new.list) }
+    ensures submits { submissions_in course.new.list ≡ submissions_in course.old.list }
+
+    // The pool.
+    ensures resting { OnOk result (IsResting course.new.pool) }
+    ensures no_more { OnOk result (idle_count course.new.pool ≤ idle_count course.old.pool) }
+    ensures open { course.new.pool.closed ≡ false }
+    ensures opening { course.new.opening ≡ course.old.opening }
+{
+    'places: for place in 0..course.pool().job_count() {
+        run_at(rt, alloc, course, clock, spawner, place)?;
+    }
+    Ok(())
+}
+
+// Runs the job at a place, where it is idle and matches a slot.
+fn run_at<R: Wait, C: Clock, P: Spawner>(
+    rt: &R,
+    alloc: Global,
+    course: &mut Course,
+    clock: &C,
+    spawner: &mut P,
+    place: usize,
+) -> Result<(), Memory>
+    requires resting { IsResting course.old.pool }
+    requires between { IsBetween
+        (spawner_seen P.tells P.count P.launches P.seen P.killed P.faults spawner.old)
+        course.old.list }
+
+    // The history.
+    ensures follows { FollowsOn (C.allows clock.now)
+        (spawner_seen P.tells P.count P.launches P.seen P.killed P.faults) spawner.old spawner.new
+        course.old.list course.new.list }
+    ensures between { OnOk result (IsBetween
+        (spawner_seen P.tells P.count P.launches P.seen P.killed P.faults spawner.new)
+        course.new.list) }
+    ensures submits { submissions_in course.new.list ≡ submissions_in course.old.list }
+
+    // The pool.
+    ensures resting { OnOk result (IsResting course.new.pool) }
+    ensures no_more { OnOk result (idle_count course.new.pool ≤ idle_count course.old.pool) }
+    ensures open { course.new.pool.closed ≡ false }
+    ensures opening { course.new.opening ≡ course.old.opening }
+{
+    let reading = clock.read();
+    match course.pool().pair_at(alloc, place, reading)? {
+        Some(pair) => run_job(rt, alloc, course, clock, spawner, pair, reading),
+        None => Ok(()),
     }
 }
 
@@ -221,13 +293,19 @@ fn run_child<R: Wait, P: Spawner>(
         Err(SpawnError::Memory) => return Err(Memory),
     };
     let mut pause = Pause::new();
+    let mut end = End::NotStarted;
     'looks: for _ in rt.forever() {
         match spawner.poll(child) {
-            Ok(ChildState::Exited(code)) => return Ok(End::Exited(code)),
-            Ok(ChildState::Signalled(signal)) => return Ok(End::Signalled(signal)),
+            Ok(ChildState::Exited(code)) => {
+                end = End::Exited(code);
+                break;
+            }
+            Ok(ChildState::Signalled(signal)) => {
+                end = End::Signalled(signal);
+                break;
+            }
             Ok(ChildState::Running) | Err(_) => pause.wait(rt),
         }
     }
-    // `forever` does not end.
-    unreachable!()
+    Ok(end)
 }

@@ -1,13 +1,15 @@
 ghost use Rattle.std.specs.Prelude.{◌≡◌, ◌≤◌, ◌<◌, ◌^◌, ◌+◌, ◌++◌, List, ℕ, IfOk, All, length, codes, string_bytes};
 ghost use Rattle.pool_core.specs.Events.{reading_of};
 ghost use Rattle.pool_core.specs.PoolValue.{slot_at};
+ghost use Rattle.pool_core.specs.Reactions.{takes_number};
 ghost use Rattle.pool_master.specs.Follows.{IsInCalendar, AreReadings};
-ghost use Rattle.pool_master.specs.UserLog.{IsStamp, IsEntry, AreEntries, IsSubmitLines, IsStartLines, IsEndLines, IsLines, ArePrinted, IsUserLog, never_starts, clusters_with, name_in, slot_name_at, three_digits, numbers_text, submitted_text, held_text};
+ghost use Rattle.pool_master.specs.UserLog.{IsStamp, IsEntry, AreEntries, IsSubmitLines, IsStartLines, IsEndLines, IsLines, ArePrinted, IsUserLog, never_starts, last_cluster_with, name_in, slot_name_at, three_digits, numbers_text, submitted_text, held_text};
 
+use ad_tree::AdList;
 use ad_value::{Memory, Text};
 use jiff::Timestamp;
 use jiff::tz::Offset;
-use pool_core::{End, Event, History, JobId, SlotAd, SlotId, Step};
+use pool_core::{End, Event, History, JobId, LAST_CLUSTER_WITHOUT_JOBS, SlotAd, SlotId, Step};
 use std::alloc::Global;
 
 const SUBMITTED: &str = "Job submitted from host: <pool>\n...\n";
@@ -32,26 +34,33 @@ fn events_text(alloc: Global, slots: &[SlotAd], steps: &[Step]) -> Result<String
     ensures { IfOk result (λ t. ArePrinted slots.now 0 steps.now (string_bytes t)) }
 {
     let mut text = String::new(alloc);
-    let mut clusters = 0;
+    let mut last = 0;
     let mut rest = steps;
     'steps: while let Some((step, after)) = rest.split_first() {
-        let lines = lines(alloc, slots, clusters, after, &step.event)?;
+        let lines = lines(alloc, slots, last, after, &step.event)?;
         text.push_str(lines.as_str())?;
-        clusters = clusters_with(clusters, &step.event);
+        last = last_cluster_with(last, &step.event);
         rest = after;
     }
     Ok(text)
 }
 
-// How many clusters were submitted, with an event.
-fn clusters_with(clusters: usize, event: &Event) -> usize
-    requires { clusters + 1 < 2 ^ 64 }
-    ensures { result ≡ clusters_with clusters event.now }
+// The number of the last cluster, after an event.
+fn last_cluster_with(last: usize, event: &Event) -> usize
+    requires { last + 1 < 2 ^ 64 }
+    ensures { result ≡ last_cluster_with last event.now }
 {
     match event {
-        Event::Submit { jobs, .. } if !jobs.is_empty() => clusters + 1,
-        _ => clusters,
+        Event::Submit { jobs, .. } if takes_number(last, jobs) => last + 1,
+        _ => last,
     }
+}
+
+// Whether a submission of these jobs takes the next number.
+fn takes_number(last: usize, jobs: &AdList) -> bool
+    ensures { result ≡ takes_number last jobs.now }
+{
+    !jobs.is_empty() || last < LAST_CLUSTER_WITHOUT_JOBS as usize
 }
 
 // Whether the run of the job that is running before these events ends as one that didn't start.
@@ -77,18 +86,16 @@ fn never_starts(job: JobId, steps: &[Step]) -> bool
 fn lines(
     alloc: Global,
     slots: &[SlotAd],
-    clusters: usize,
+    last: usize,
     after: &[Step],
     event: &Event,
 ) -> Result<String, Memory>
     requires in_range { IsInCalendar (reading_of event.now) }
-    requires few { clusters + 1 < 2 ^ 64 }
-    ensures { IfOk result (λ t. IsLines slots.now clusters after.now event.now (string_bytes t)) }
+    requires few { last + 1 < 2 ^ 64 }
+    ensures { IfOk result (λ t. IsLines slots.now last after.now event.now (string_bytes t)) }
 {
     match event {
-        Event::Submit { jobs, reading } => {
-            submit_lines(alloc, clusters + 1, jobs.len(), *reading)
-        }
+        Event::Submit { jobs, reading } => { submit_lines(alloc, last + 1, jobs.len(), *reading) }
         Event::Start {
             job,
             slot,

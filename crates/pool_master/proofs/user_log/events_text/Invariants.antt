@@ -6,9 +6,9 @@ use Rattle.pool_master.proofs.user_log.events_text.Given as goal
 
 abbrev pub invariant-steps : goal.invariant-steps
 invariant-steps l = record {
-  so_far : (more : List ℕ) → ArePrinted l.slots l.clusters l.rest more → ArePrinted l.slots 0 l.steps (string_bytes l.text ++ more);
+  so_far : (more : List ℕ) → ArePrinted l.slots l.last l.rest more → ArePrinted l.slots 0 l.steps (string_bytes l.text ++ more);
   in_range : AreReadings l.rest;
-  few : l.clusters + length l.rest ≤ length l.steps;
+  few : l.last + length l.rest ≤ length l.steps;
 }
 
 abbrev pub decreases-steps : goal.decreases-steps
