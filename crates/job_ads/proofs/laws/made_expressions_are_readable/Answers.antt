@@ -1,0 +1,16 @@
+use Rattle.ad_value.specs.Content.{text}
+use Rattle.ad_parse.proofs.Reread.{again}
+use Rattle.job_ads.proofs.Readable.{readable_value, readable_integer, readable_request}
+use Rattle.job_ads.proofs.laws.made_expressions_are_readable.Goals as goal
+
+pub returns-clause-read : goal.returns-clause-read
+returns-clause-read c = again
+
+pub returns-clause-integer : goal.returns-clause-integer
+returns-clause-integer c = readable_integer
+
+pub returns-clause-string : goal.returns-clause-string
+returns-clause-string c = λ s h. readable_value (text s) h
+
+pub returns-clause-request : goal.returns-clause-request
+returns-clause-request c = readable_request
