@@ -1,5 +1,5 @@
 -- How many attributes are a job's own, one more at a time.
-use Rattle.std.proofs.Common.{◌≡◌, ℕ, ◌+◌, ◌<◌, ◌≤◌, Bool, true, false, cond, List, [], length, get_or, take, slice_get, refl, ap, sym, ◌∙◌, arith}
+use Rattle.std.proofs.Common.{◌≡◌, ℕ, ◌+◌, ◌<◌, ◌≤◌, Bool, true, false, cond, List, [], length, get_or, take, refl, ap, ◌∙◌, arith}
 use Rattle.std.specs.Option.{option_map_or}
 use Rattle.std.proofs.lemmas.Option.{slice_get-get_or}
 use Rattle.std.proofs.lemmas.List.{take_all}
@@ -7,7 +7,8 @@ use Rattle.std.proofs.lemmas.List.Sums.{count_by_more_yes, count_by_more_no}
 use Rattle.ad_value.specs.Content.{undefined}
 use Rattle.ad_tree.specs.Tree.{Tree, literal}
 use Rattle.ad_tree.specs.Ad.{Attributes}
-use Rattle.submit_values.specs.JobAds.{is_own, own_attributes, own_at}
+use Rattle.job_ads.specs.Submitted.{is_own, own_attributes}
+use Rattle.submit_values.specs.JobAds.{own_at}
 
 none : List ℕ × Tree
 none = ([], literal undefined)

@@ -1,10 +1,10 @@
 -- What `parse_expr` gives, in the words of values.
-use Rattle.std.proofs.Common.{◌≡◌, ◌≢◌, ℕ, List, Result, Ok, Err, ap, sym, subst}
+use Rattle.std.proofs.Common.{◌≡◌, ◌≢◌, ℕ, List, Ok, Err, ap, sym, subst}
 use Rattle.ad_tree.specs.declared.tree.Expr.{Expr}
 use Rattle.ad_tree.specs.Tree.{Tree, tree}
 use Rattle.ad_parse.specs.declared.error.ParseError.{ParseError}
 use Rattle.ad_parse.specs.declared.error.ParseError.TheVariants as parse
-use Rattle.ad_parse.specs.ExprText.{IsExprText, IsRefused, expression_at}
+use Rattle.ad_parse.specs.ExprText.{IsExprText, IsRefused}
 use Rattle.ad_parse.proofs.Texts.{said_is_read, cause_is_read}
 use Rattle.submit_values.specs.declared.error.ValueError.{ValueError}
 use Rattle.submit_values.specs.Values.{of_reading, of_parse, tree_of_text, GivesValue}

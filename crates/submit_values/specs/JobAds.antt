@@ -1,22 +1,13 @@
 -- The ad of a job, attribute by attribute.
-use Rattle.std.specs.Prelude.{ℕ, ◌+◌, not, nat_le, Bool, List, [], ◌∷◌, length, map, count_by, slice_get, Option, Some, None, if◌then◌else◌}
-use Rattle.std.specs.List.{list_any}
+use Rattle.std.specs.Prelude.{ℕ, nat_le, List, slice_get, Option, Some, None, if◌then◌else◌}
 use Rattle.std.specs.Option.{option_map_or}
-use Rattle.ad_names.specs.Groups.{pool_names}
-use Rattle.ad_value.specs.Names.{same_name}
 use Rattle.ad_tree.specs.Tree.{Tree}
 use Rattle.ad_tree.specs.Ad.{Attributes, with_attribute}
 use Rattle.ad_parse.specs.AdText.{is_full_for}
-use Rattle.submit_values.specs.declared.job_ad.TheConstants.{MAX_OWN_ATTRIBUTES}
+use Rattle.job_ads.specs.declared.TheConstants.{MAX_OWN_ATTRIBUTES}
+use Rattle.job_ads.specs.Submitted.{is_own, own_attributes}
 
--- an attribute that the pool does not set itself
-abbrev pub is_own : List ℕ × Tree → Bool
-is_own a = not (list_any (same_name a.0) pool_names)
-
--- how many other attributes there are
-abbrev pub own_attributes : Attributes → ℕ
-own_attributes ad = count_by is_own ad
-
+-- 1 where the attribute at a place is a job's own, else 0
 abbrev pub own_at : Attributes → ℕ → ℕ
 own_at ad place = option_map_or (λ a. if is_own a then 1 else 0) (slice_get ad place) 0
 

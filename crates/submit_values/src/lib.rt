@@ -11,4 +11,4 @@ mod value;
 pub use command::Command;
 pub use error::ValueError;
 pub use expressions::{expression, string_expression};
-pub use job_ad::{JobAd, MAX_OWN_ATTRIBUTES};
+pub use job_ad::JobAd;
