@@ -5,3 +5,6 @@ pub mod Puts
 pub mod Copies
 pub mod Readings
 pub mod OneResult
+pub mod Names
+pub mod Kept
+pub mod Submitted

@@ -1,6 +1,6 @@
 -- A file has one result.
-use Rattle.std.proofs.Common.{◌≡◌, ℕ, ◌<◌, ◌≤◌, Bool, true, false, true≢false, cond, List, [], ◌∷◌, ◌++◌, length, ◌⊎◌, inl, inr, Option, Some, None, Result, Ok, Err, refl, ap, sym, ◌∙◌, subst, arith}
-use Rattle.std.specs.Prelude.{unwrap_or, decimal}
+use Rattle.std.proofs.Common.{◌≡◌, ℕ, cond, List, [], ◌∷◌, ◌++◌, Option, Some, None, Result, Ok, Err, refl, ap, sym, ◌∙◌, subst, arith}
+use Rattle.std.specs.Prelude.{unwrap_or}
 use Rattle.ad_tree.specs.Ad.{Attributes}
 use Rattle.line_text.specs.declared.error.MacroError.{MacroError}
 use Rattle.line_text.specs.declared.error.MacroError.TheVariants as macro
@@ -19,11 +19,10 @@ use Rattle.submit_file.specs.declared.error.SubmitError.{SubmitError}
 use Rattle.submit_file.specs.declared.error.SubmitError.TheVariants as error
 use Rattle.submit_file.specs.declared.file.FileSoFar.{FileSoFar}
 use Rattle.submit_file.specs.declared.file.LinesSoFar.{LinesSoFar}
-use Rattle.submit_file.specs.declared.setting.Setting.{Setting}
 use Rattle.submit_file.specs.Errors.{Replaced, replaced, refused, line_error}
 use Rattle.submit_file.specs.Drafts.{JobDraft, Effect, with_effect, ad_of}
-use Rattle.submit_file.specs.Origins.{Origin, owner_command, setting_for}
-use Rattle.submit_file.specs.SubmittedJobs.{Common, place_of, effect_at, Gives, nothing_set, is_set, Takes, takes, TakesAll, all_taken, and_takes, origins, numbered, queued, Fills, fills, nothing, IsJob, is_job, AdsResult, MakesJobs, jobs_end, stops, and_job, job_macros, FitsIn, jobs_in, items_of, HasProgram, Asks, too_many, no_program, no_jobs, jobs, Queues, unreadable, no_form, asks, Reads, ended, no_queue, refuses, sets, sets_attribute, refuses_queue, queues, with_name, with_attribute_line, with_ads, begun, SubmittedJobs}
+use Rattle.submit_file.specs.Origins.{Origin}
+use Rattle.submit_file.specs.SubmittedJobs.{Common, place_of, effect_at, Gives, nothing_set, is_set, Takes, takes, TakesAll, all_taken, and_takes, origins, queued, Fills, fills, IsJob, is_job, AdsResult, MakesJobs, jobs_end, stops, and_job, Asks, too_many, no_program, no_jobs, jobs, Queues, unreadable, no_form, asks, Reads, ended, no_queue, refuses, sets, sets_attribute, refuses_queue, queues, with_name, with_attribute_line, with_ads, SubmittedJobs}
 
 some_is : {A : Type 0} {x y : A} → Some x ≡ Some y → x ≡ y
 some_is {x = x} e = ap (λ o. unwrap_or o x) e

@@ -1,5 +1,5 @@
 -- What has an expansion, although some macros have none, does not look at these.
-use Rattle.std.proofs.Common.{◌≡◌, ℕ, List, Option, Some, Result, Ok, Err, inl, inr, ◌⊎◌, ap, sym, ◌∙◌, subst, codes, refl}
+use Rattle.std.proofs.Common.{◌≡◌, ℕ, List, Some, Result, Ok, Err, inl, inr, ◌⊎◌, ap, ◌∙◌, subst, codes, refl}
 use Rattle.std.specs.Prelude.{unwrap_or}
 use Rattle.ad_value.specs.Names.{lowercase}
 use Rattle.line_text.specs.Macros.{Macros}

@@ -24,7 +24,7 @@ use Rattle.line_text.specs.Macros.{Macros}
 use Rattle.submit_file.specs.Errors.{IsNoMemory, Replaced, UnlessMemory}
 use Rattle.submit_file.specs.Drafts.{JobDraft, Effect, named_value, macro_refusal, with_given, with_effect, value_of, ad_of}
 use Rattle.submit_file.specs.Origins.{Origin, owner_command, origin_of, setting_for, name_for, value_for, preset_for}
-use Rattle.submit_file.specs.SubmittedJobs.{Common, common, place_of, effect_at, Gives, nothing_set, is_set, Takes, takes, TakesAll, all_taken, and_takes, whole, commands, origins, numbered, queued, Fills, fills, nothing, IsJob, is_job}
+use Rattle.submit_file.specs.SubmittedJobs.{Common, common, place_of, effect_at, Gives, nothing_set, is_set, Takes, takes, TakesAll, all_taken, and_takes, whole, origins, numbered, queued, Fills, fills, nothing, IsJob, is_job}
 use Rattle.submit_file.specs.Plans.{effect_of, effect_of_value, value_in, is_memory_value, origins_of, Spares, GivesFor, IsFixedFor, IsPartFor, ArePartsFor}
 use Rattle.submit_file.proofs.Spared.{IsText, replaced_spared}
 

@@ -1,5 +1,5 @@
 -- Where the attributes of a job come from.
-use Rattle.std.specs.Prelude.{ℕ, List, ◌++◌, map, codes, Option, Some, None, Result, Ok}
+use Rattle.std.specs.Prelude.{ℕ, List, codes, Option, Some, None, Result, Ok}
 use Rattle.ad_value.specs.Content.{text}
 use Rattle.ad_names.specs.declared.job.TheConstants.{OWNER}
 use Rattle.ad_tree.specs.Tree.{Tree, literal}

@@ -1,6 +1,5 @@
-use Rattle.std.proofs.Common.{◌≡◌}
 use Rattle.std.specs.Prelude.{decimal}
-use Rattle.submit_file.specs.SubmittedJobs.{common, item_of, job_macros}
+use Rattle.submit_file.specs.SubmittedJobs.{common, item_of}
 use Rattle.submit_file.proofs.Copies.{job_ok, job_err}
 use Rattle.submit_file.proofs.JobMacros.{job_set, are_job_macros}
 use Rattle.submit_file.proofs.plan.Plan.add_job.Goals as goal

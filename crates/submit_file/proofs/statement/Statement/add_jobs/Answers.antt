@@ -1,4 +1,4 @@
-use Rattle.std.proofs.Common.{ap, sym, subst}
+use Rattle.std.proofs.Common.{sym, subst}
 use Rattle.submit_file.specs.declared.statement.Statement.{Statement}
 use Rattle.submit_file.specs.Plans.{variable_in, AreJobMacros}
 use Rattle.submit_file.proofs.JobMacros.{are_blocked, job_spared}
