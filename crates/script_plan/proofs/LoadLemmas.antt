@@ -1,9 +1,17 @@
 -- One job more of a load.
-use Rattle.std.proofs.Common.{◌≡◌, ℕ, ◌+◌, ◌<◌, zero, suc, List, [], ◌∷◌, ◌++◌, length, Some, refl, sym, ap, ◌∙◌, inl, inr, arith, add-one, length-append}
+use Rattle.std.proofs.Common.{◌≡◌, ℕ, ◌+◌, ◌<◌, ◌^◌, zero, suc, List, [], ◌∷◌, ◌++◌, length, Some, refl, sym, ap, ◌∙◌, inl, inr, arith, add-one, length-append}
 use Rattle.std.specs.List.{slice_get}
 use Rattle.std.proofs.lemmas.Bool.{cases_lt}
 use Rattle.claim_id.specs.declared.numbers.JobId.{JobId}
-use Rattle.script_plan.specs.Loads.{load_ads, load_ad, job_of_load, number_after, next_number, IsSubmitted}
+use Rattle.std.specs.Prelude.{pos, codes}
+use Rattle.ad_value.specs.Content.{text}
+use Rattle.ad_token.specs.Canonical.{is_line}
+use Rattle.ad_token.specs.Names.{is_name, word_of}
+use Rattle.ad_parse.specs.ValueText.{HasReadableLiteral}
+use Rattle.ad_rows.specs.Rows.{integer_literal, text_literal}
+use Rattle.job_ads.specs.Submitted.{IsReadable, IsSubmitted}
+use Rattle.job_ads.proofs.Readable.{readable_value, readable_integer, readable_request}
+use Rattle.script_plan.specs.Loads.{load_ads, load_ad, job_of_load, number_after, next_number}
 
 pub load_none : (number cluster : ℕ) (owner : List ℕ) (now : ℕ) → [] ≡ load_ads number cluster owner now 0
 unfolding load_ads
@@ -53,13 +61,27 @@ each number cluster now (suc jobs) proc owner inside =
           ∙ ap (λ p. Some (job_of_load number cluster owner now p)) (sym last)
     ]
 
-pub submitted : (job : JobId) (owner : List ℕ) (now memory : ℕ) → IsSubmitted job (load_ad job owner now memory)
-submitted job owner now memory = record {
-  cluster_id = refl;
-  proc_id = refl;
-  job_status = refl;
-  no_claim = refl;
-  no_number = refl;
-  no_lease = refl;
-  small = omega arith;
-}
+pub submitted : (job : JobId) (owner : List ℕ) (now memory : ℕ) → job.cluster < 2 ^ 63 → job.proc < 2 ^ 63 → now < 2 ^ 63 → memory < 2 ^ 63 → HasReadableLiteral (text owner) → IsSubmitted job.cluster job.proc (load_ad job owner now memory)
+unfolding is_name word_of is_line
+submitted job owner now memory clustered numbered dated sized owned =
+    let empty : IsReadable (text_literal []) = readable_value (text []) (record { plain = refl; shallow = omega arith; short = omega arith }) in
+    let program : IsReadable (text_literal (codes "/bin/true")) = readable_value (text (codes "/bin/true")) (record { plain = refl; shallow = omega arith; short = omega arith }) in
+    let zero : IsReadable (integer_literal 0) = readable_integer (pos 0) (omega arith) in
+    let one : IsReadable (integer_literal 1) = readable_integer (pos 1) (omega arith) in
+    let cluster : IsReadable (integer_literal job.cluster) = readable_integer (pos job.cluster) clustered in
+    let proc : IsReadable (integer_literal job.proc) = readable_integer (pos job.proc) numbered in
+    let name : IsReadable (text_literal owner) = readable_value (text owner) owned in
+    let date : IsReadable (integer_literal now) = readable_integer (pos now) dated in
+    let universe : IsReadable (integer_literal 5) = readable_integer (pos 5) (omega arith) in
+    let size : IsReadable (integer_literal memory) = readable_integer (pos memory) sized in
+    let disk : IsReadable (integer_literal 1024) = readable_integer (pos 1024) (omega arith) in
+    record {
+      cluster_id = refl;
+      proc_id = refl;
+      job_status = refl;
+      no_claim = refl;
+      no_number = refl;
+      no_lease = refl;
+      small = omega arith;
+      readable = (refl, cluster, (refl, proc, (refl, name, (refl, date, (refl, universe, (refl, one, (refl, program, (refl, empty, (refl, empty, (refl, empty, (refl, empty, (refl, empty, (refl, zero, (refl, readable_request, (refl, zero, (refl, one, (refl, size, (refl, disk, tt))))))))))))))))));
+    }

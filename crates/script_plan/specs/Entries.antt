@@ -1,5 +1,5 @@
 -- What a line of a script says.
-use Rattle.std.specs.Prelude.{◌≡◌, ◌≢◌, ℕ, ◌<◌, ◌≤◌, ◌^◌, Bool, true, false, List, [], ◌∷◌, Option, Some, None, position, codes, decimal}
+use Rattle.std.specs.Prelude.{◌≡◌, ◌≢◌, ℕ, ◌<◌, ◌≤◌, ◌^◌, Bool, true, false, List, [], ◌∷◌, Option, Some, None, position, codes}
 use Rattle.std.specs.Str.{bytes_eq}
 use Rattle.ad_value.specs.Decimals.{IsNumber}
 use Rattle.pool_outer.specs.declared.clock.TheConstants.{LAST_READING}

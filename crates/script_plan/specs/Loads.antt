@@ -1,11 +1,10 @@
 -- The ads of a load's jobs (HTCondor manual, "Job ClassAd Attributes").
-use Rattle.std.specs.Prelude.{◌≡◌, ◌≤◌, ℕ, zero, suc, ◌+◌, ◌*◌, ◌/◌, ◌%◌, List, [], ◌∷◌, ◌++◌, length, Some, None, codes}
+use Rattle.std.specs.Prelude.{ℕ, zero, suc, ◌+◌, ◌*◌, ◌/◌, ◌%◌, List, [], ◌∷◌, ◌++◌, codes}
 use Rattle.ad_names.specs.declared.job.TheConstants.{ARGS, CLUSTER_ID, CMD, ERR, IN, IWD, JOB_PRIO, JOB_STATUS, JOB_UNIVERSE, OUT, OWNER, PROC_ID, Q_DATE, REQUEST_CPUS, REQUEST_DISK, REQUEST_MEMORY}
 use Rattle.ad_names.specs.declared.matching.TheConstants.{RANK, REQUIREMENTS}
-use Rattle.ad_names.specs.declared.pool.TheConstants.{RUN_CLAIM, RUN_NUMBER, LEASE_UNTIL}
 use Rattle.ad_rows.specs.Requests.{enough}
 use Rattle.ad_rows.specs.Rows.{integer_literal, text_literal}
-use Rattle.ad_tree.specs.Ad.{Attributes, lookup}
+use Rattle.ad_tree.specs.Ad.{Attributes}
 use Rattle.claim_id.specs.declared.numbers.JobId.{JobId}
 
 -- the ad of a job that asks for so many MiB
@@ -54,14 +53,3 @@ unfoldable pub load_ads : ℕ → ℕ → List ℕ → ℕ → ℕ → List Attr
 load_ads number cluster owner now zero = []
 load_ads number cluster owner now (suc jobs) =
     load_ads number cluster owner now jobs ++ job_of_load number cluster owner now jobs ∷ []
-
--- what is asked of a job's ad that is submitted: its numbers, that it is idle and has had no run,
--- and room for what the pool sets
-pub record IsSubmitted (job : JobId) (ad : Attributes) : Type 0 where
-  pub cluster_id : lookup CLUSTER_ID.now ad ≡ Some (integer_literal job.cluster)
-  pub proc_id : lookup PROC_ID.now ad ≡ Some (integer_literal job.proc)
-  pub job_status : lookup JOB_STATUS.now ad ≡ Some (integer_literal 1)
-  pub no_claim : lookup RUN_CLAIM.now ad ≡ None
-  pub no_number : lookup RUN_NUMBER.now ad ≡ None
-  pub no_lease : lookup LEASE_UNTIL.now ad ≡ None
-  pub small : length ad ≤ 248
