@@ -1,13 +1,16 @@
 //! Answers cases of matchmaking: a command a line on standard input, an answer a line on standard
 //! output.
 //!
-//! `new-accountant TICK`, `charge USER N`, `factor USER N`, `ceiling USER N`,
-//! `charge-many PREFIX FIRST LAST N`, `advance TICK`, `effective USER`: README.md says what each
+//! There are commands of accounts, of a collector and of a snapshot: README.md says what each
 //! answers.
 #![tactic(auto)]
 
 mod accounts;
 mod answers;
+mod collecting;
+mod negotiating;
+mod readers;
+mod snapshots;
 
 use crate::answers::answer_all;
 use anyhow::Result;

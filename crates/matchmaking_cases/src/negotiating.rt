@@ -1,0 +1,71 @@
+ghost use Rattle.std.specs.Prelude.{◌≡◌, ◌<◌};
+ghost use Rattle.negotiate.specs.Snapshots.{IsSnapshot};
+
+use crate::readers::bad_form;
+use ad_eval::Steps;
+use ad_value::Memory;
+use cases::{Case, CaseError};
+use negotiate::{Snapshot, plain_cycle};
+use pool_mail::{Match, MatchList};
+use std::alloc::Global;
+use std::fmt::Write;
+use std::marker::Brand;
+use std::sync::ledger::{Blank, Ledger};
+
+/// The matches of a cycle of the snapshot.
+pub(crate) fn answer_cycle(
+    alloc: Global,
+    case: Case<'_>,
+    snapshot: &Snapshot,
+    out: &mut String,
+) -> Result<(), CaseError> {
+    if !snapshot.is_negotiable() {
+        return Err(bad_form(case));
+    }
+    match matches_of(alloc, snapshot) {
+        Ok(matches) => write_matches(alloc, matches.as_slice(), out),
+        Err(Memory) => Err(CaseError::Memory),
+    }
+}
+
+// The matches. Their judgements are counted for themselves.
+fn matches_of(alloc: Global, snapshot: &Snapshot) -> Result<MatchList, Memory>
+    requires { IsSnapshot snapshot.now }
+{
+    plain_matches::<Brand>(alloc, snapshot, Blank::new(1))
+}
+
+fn plain_matches<L: Ledger>(
+    alloc: Global,
+    snapshot: &Snapshot,
+    blank: Blank,
+) -> Result<MatchList, Memory>
+    requires name { blank.name ≡ L.name }
+    requires parts { blank.parts ≡ L.parts }
+    requires some { 0 < blank.parts }
+    requires snapshot { IsSnapshot snapshot.now }
+{
+    let mut steps = Steps::<L>::new(blank);
+    plain_cycle(alloc, snapshot, &mut steps)
+}
+
+fn write_matches(alloc: Global, matches: &[Match], out: &mut String) -> Result<(), CaseError> {
+    out.push_str("ok")?;
+    for one in matches {
+        write_match(alloc, one, out)?;
+    }
+    Ok(())
+}
+
+// The job, the claim, and whether it is by priority.
+fn write_match(alloc: Global, one: &Match, out: &mut String) -> Result<(), CaseError> {
+    let (Ok(job), Ok(claim)) = (one.job.print(alloc), one.claim.print(alloc)) else {
+        return Err(CaseError::Memory);
+    };
+    let how = if one.by_priority {
+        "by_priority"
+    } else {
+        "plain"
+    };
+    Ok(write!(out, "\t{job} {claim} {how}")?)
+}
