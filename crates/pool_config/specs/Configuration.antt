@@ -127,3 +127,8 @@ pub record IsWithinLimits (c : Configuration) : Type 0 where
   pub machines : length c.machines ≤ MAX_MACHINES
   pub slots : total_slots c.machines ≤ MAX_SLOTS
   pub room : All HasRoom c.machines
+
+-- each machine has a slot
+abbrev pub HaveSlots : List ConfiguredMachine → Type 0
+HaveSlots [] = Unit {0}
+HaveSlots (m ∷ ms) = (0 < m.slots) × HaveSlots ms

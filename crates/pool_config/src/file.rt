@@ -1,7 +1,7 @@
 // Configurations from text.
 
 ghost use Rattle.std.specs.Prelude.{◌≡◌, [], IfOk};
-ghost use Rattle.pool_config.specs.Configuration.{configuration_of, outcome, IsWithinLimits};
+ghost use Rattle.pool_config.specs.Configuration.{configuration_of, outcome, HaveSlots, IsWithinLimits};
 ghost use Rattle.pool_config.specs.Errors.{Becomes, UnlessMemory, changed_to};
 ghost use Rattle.pool_config.specs.Names.{sets_of};
 ghost use Rattle.pool_config.specs.Lines.{IsConfiguration, Reads, TakesLines, TakesLine, TakesSetting, TakesKey, TakesValue, and_macro, begun, macro_fault};
@@ -32,6 +32,7 @@ pub(crate) struct Reading {
 pub fn read(alloc: Global, text: &str) -> Result<Config, ConfigError>
     ensures is { UnlessMemory (IsConfiguration text.now) (outcome result) }
     ensures within { IfOk result (λ c. IsWithinLimits (configuration_of c)) }
+    ensures each { IfOk result (λ c. HaveSlots (configuration_of c).machines) }
 {
     let lines = lines(alloc, text)?;
     let mut reading = Reading::new(alloc)?;
