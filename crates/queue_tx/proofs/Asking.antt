@@ -23,60 +23,55 @@ use Rattle.queue_tx.specs.Requests.{SameRequest, IsIdleAsking}
 use Rattle.queue_tx.proofs.Queues.{exact_keys}
 use Rattle.queue_tx.proofs.Transactions.{same_keys}
 
--- ---- how many keys are past a bound
+-- ---- how many keys are above a key
 
-abbrev pub past_count : Bound (Bor Key) → KeyedAds → ℕ
-past_count start [] = 0
-past_count start (e ∷ q) = cond (is_past key_cmp start e.0) (1 + past_count start q) (past_count start q)
+abbrev pub above_count : Key → KeyedAds → ℕ
+above_count k [] = 0
+above_count k (e ∷ q) = cond (is_lt (key_cmp k e.0)) (1 + above_count k q) (above_count k q)
 
--- past the later key is past the bound before it
-past_both : (start : Bound (Bor Key)) (k : Bor Key) (x : Key) → is_past key_cmp start k.now ≡ true → is_past key_cmp (Excluded k) x ≡ true → is_past key_cmp start x ≡ true
-past_both start k x past h = by (is_past key_cmp start x) refl
+less_from : (r : Ordering) → is_lt r ≡ true → r ≡ Less
+less_from Less h = refl
+less_from Equal h = cc
+less_from Greater h = cc
+
+above_both : (k n x : Key) → is_lt (key_cmp k n) ≡ true → is_lt (key_cmp n x) ≡ true → is_lt (key_cmp k x) ≡ true
+above_both k n x h g = ap is_lt (key_cmp_total.trans k n x (less_from (key_cmp k n) h) (less_from (key_cmp n x) g))
+
+fewer_or_same : (k n : Key) (q : KeyedAds) → is_lt (key_cmp k n) ≡ true → above_count n q ≤ above_count k q
+fewer_or_same k n [] above = omega arith
+fewer_or_same k n (e ∷ q) above = by (is_lt (key_cmp n e.0)) refl (is_lt (key_cmp k e.0)) refl (fewer_or_same k n q above)
   where
-    less : (r : Ordering) → is_lt r ≡ true → r ≡ Less
-    less Less g = refl
-    less Equal g = cc
-    less Greater g = cc
-
-    by : (b : Bool) → is_past key_cmp start x ≡ b → is_past key_cmp start x ≡ true
-    by true e = e
-    by false e = let clash = sym past ∙ not_past_below key_cmp_total start k.now x (less (key_cmp k.now x) h) e in cc
-
-fewer_or_same : (start : Bound (Bor Key)) (k : Bor Key) (q : KeyedAds) → is_past key_cmp start k.now ≡ true → past_count (Excluded k) q ≤ past_count start q
-fewer_or_same start k [] past = omega arith
-fewer_or_same start k (e ∷ q) past = by (is_past key_cmp (Excluded k) e.0) refl (is_past key_cmp start e.0) refl (fewer_or_same start k q past)
-  where
-    by : (b : Bool) → is_past key_cmp (Excluded k) e.0 ≡ b → (c : Bool) → is_past key_cmp start e.0 ≡ c → past_count (Excluded k) q ≤ past_count start q
-        → cond b (1 + past_count (Excluded k) q) (past_count (Excluded k) q) ≤ cond c (1 + past_count start q) (past_count start q)
+    by : (b : Bool) → is_lt (key_cmp n e.0) ≡ b → (c : Bool) → is_lt (key_cmp k e.0) ≡ c → above_count n q ≤ above_count k q
+        → cond b (1 + above_count n q) (above_count n q) ≤ cond c (1 + above_count k q) (above_count k q)
     by true e1 true e2 h = omega arith
-    by true e1 false e2 h = let clash = sym (past_both start k e.0 past e1) ∙ e2 in cc
+    by true e1 false e2 h = let clash = sym (above_both k n e.0 above e1) ∙ e2 in cc
     by false e1 true e2 h = omega arith
     by false e1 false e2 h = h
 
-pub fewer : (start : Bound (Bor Key)) (k : Bor Key) (q : KeyedAds) → is_past key_cmp start k.now ≡ true → is_some (ad_at k.now q) ≡ true → past_count (Excluded k) q < past_count start q
-fewer start k [] past there = cc
-fewer start k (e ∷ q) past there = by (same_key k.now e.0) refl there (fewer start k q past)
+pub fewer : (k n : Key) (q : KeyedAds) → is_lt (key_cmp k n) ≡ true → is_some (ad_at n q) ≡ true → above_count n q < above_count k q
+fewer k n [] above there = cc
+fewer k n (e ∷ q) above there = by (same_key n e.0) refl there (fewer k n q above)
   where
-    at_itself : same_key k.now e.0 ≡ true → (is_past key_cmp (Excluded k) e.0 ≡ false) × (is_past key_cmp start e.0 ≡ true)
+    at_itself : same_key n e.0 ≡ true → (is_lt (key_cmp n e.0) ≡ false) × (is_lt (key_cmp k e.0) ≡ true)
     at_itself h =
-        let same = same_keys k.now e.0 h in
-        (ap is_lt (subst (λ x. key_cmp k.now x ≡ Equal) same (tied_itself key_cmp_total k.now)), subst (λ x. is_past key_cmp start x ≡ true) same past)
+        let same = same_keys n e.0 h in
+        (ap is_lt (subst (λ x. key_cmp n x ≡ Equal) same (tied_itself key_cmp_total n)), subst (λ x. is_lt (key_cmp k x) ≡ true) same above)
 
-    rest_of : past_count (Excluded k) q < past_count start q → (b : Bool) → is_past key_cmp (Excluded k) e.0 ≡ b → (c : Bool) → is_past key_cmp start e.0 ≡ c
-        → cond b (1 + past_count (Excluded k) q) (past_count (Excluded k) q) < cond c (1 + past_count start q) (past_count start q)
+    rest_of : above_count n q < above_count k q → (b : Bool) → is_lt (key_cmp n e.0) ≡ b → (c : Bool) → is_lt (key_cmp k e.0) ≡ c
+        → cond b (1 + above_count n q) (above_count n q) < cond c (1 + above_count k q) (above_count k q)
     rest_of h true e1 true e2 = omega arith
-    rest_of h true e1 false e2 = let clash = sym (past_both start k e.0 past e1) ∙ e2 in cc
+    rest_of h true e1 false e2 = let clash = sym (above_both k n e.0 above e1) ∙ e2 in cc
     rest_of h false e1 true e2 = omega arith
     rest_of h false e1 false e2 = h
 
-    here : (is_past key_cmp (Excluded k) e.0 ≡ false) × (is_past key_cmp start e.0 ≡ true) → past_count (Excluded k) q ≤ past_count start q
-        → cond (is_past key_cmp (Excluded k) e.0) (1 + past_count (Excluded k) q) (past_count (Excluded k) q) < cond (is_past key_cmp start e.0) (1 + past_count start q) (past_count start q)
+    here : (is_lt (key_cmp n e.0) ≡ false) × (is_lt (key_cmp k e.0) ≡ true) → above_count n q ≤ above_count k q
+        → cond (is_lt (key_cmp n e.0)) (1 + above_count n q) (above_count n q) < cond (is_lt (key_cmp k e.0)) (1 + above_count k q) (above_count k q)
     here h le = rw (h.0, h.1) (omega arith)
 
-    by : (b : Bool) → same_key k.now e.0 ≡ b → is_some (cond b (Some e.1) (ad_at k.now q)) ≡ true → (is_some (ad_at k.now q) ≡ true → past_count (Excluded k) q < past_count start q)
-        → past_count (Excluded k) (e ∷ q) < past_count start (e ∷ q)
-    by true h there rest = here (at_itself h) (fewer_or_same start k q past)
-    by false h there rest = rest_of (rest there) (is_past key_cmp (Excluded k) e.0) refl (is_past key_cmp start e.0) refl
+    by : (b : Bool) → same_key n e.0 ≡ b → is_some (cond b (Some e.1) (ad_at n q)) ≡ true → (is_some (ad_at n q) ≡ true → above_count n q < above_count k q)
+        → above_count n (e ∷ q) < above_count k (e ∷ q)
+    by true h there rest = here (at_itself h) (fewer_or_same k n q above)
+    by false h there rest = rest_of (rest there) (is_lt (key_cmp n e.0)) refl (is_lt (key_cmp k e.0)) refl
 
 pub job_is_there : (kind : JobKind) (q : KeyedAds) (key : Key) → IsJobOf kind q key → is_some (ad_at key q) ≡ true
 job_is_there kind q key h = by key (ad_at key q) h
@@ -86,34 +81,52 @@ job_is_there kind q key h = by key (ad_at key q) h
     by (Proc job) None h = cc
     by (Proc job) (Some ad) h = refl
 
--- ---- an idle job that asks for something else is passed by
+-- ---- from one idle job to the next
 
 after_or_equal : (r : Ordering) → is_gt r ≡ false → (r ≡ Less) ⊎ (r ≡ Equal)
 after_or_equal Less h = inl refl
 after_or_equal Equal h = inr refl
 after_or_equal Greater h = cc
 
-module _ (ad : Attributes) (q : KeyedAds) (start : Bound (Bor Key)) (k : Bor Key) (first : IsFirstKey (IsJobOf Idle q) start k.now) where
-  pub asks : IsSomeAnd (ad_at k.now q) (λ other. SameRequest ad other) → IsFirstKey (IsIdleAsking ad q) start k.now
-  asks same = record { meant = (first.meant, same); past = first.past; first = λ other meant past. first.first other meant.0 past }
+-- an idle job past the bound, before which none that is past it asks for the same
+pub record IsReached (ad : Attributes) (q : KeyedAds) (start : Bound (Bor Key)) (key : Key) : Type 0 where
+  pub idle : IsJobOf Idle q key
+  pub past : is_past key_cmp start key ≡ true
+  pub first : (other : Key) → IsIdleAsking ad q other → is_past key_cmp start other ≡ true → is_gt (key_cmp key other) ≡ false
 
-  module _ (differs : IsSomeAnd (ad_at k.now q) (λ other. SameRequest ad other) → ⊥) where
-    -- another that asks for it is behind this one
-    behind : (other : Key) → IsIdleAsking ad q other → is_past key_cmp start other ≡ true → is_past key_cmp (Excluded k) other ≡ true
-    behind other meant past = by (after_or_equal (key_cmp k.now other) (first.first other meant.0 past))
+module _ (ad : Attributes) (q : KeyedAds) (start : Bound (Bor Key)) where
+  pub reached_first : (key : Key) → IsFirstKey (IsJobOf Idle q) start key → IsReached ad q start key
+  reached_first key f = record { idle = f.meant; past = f.past; first = λ other meant past. f.first other meant.0 past }
+
+  pub asks : (key : Key) → IsReached ad q start key → IsSomeAnd (ad_at key q) (λ other. SameRequest ad other) → IsFirstKey (IsIdleAsking ad q) start key
+  asks key r same = record { meant = (r.idle, same); past = r.past; first = r.first }
+
+  module _ (k : Key) (r : IsReached ad q start k) (differs : IsSomeAnd (ad_at k q) (λ other. SameRequest ad other) → ⊥) where
+    -- one that asks for the same is behind one that doesn't
+    behind : (other : Key) → IsIdleAsking ad q other → is_past key_cmp start other ≡ true → is_lt (key_cmp k other) ≡ true
+    behind other meant past = by (after_or_equal (key_cmp k other) (r.first other meant past))
       where
-        by : (key_cmp k.now other ≡ Less) ⊎ (key_cmp k.now other ≡ Equal) → is_past key_cmp (Excluded k) other ≡ true
+        by : (key_cmp k other ≡ Less) ⊎ (key_cmp k other ≡ Equal) → is_lt (key_cmp k other) ≡ true
         by (inl h) = ap is_lt h
-        by (inr h) = absurd (differs (subst (λ x. IsSomeAnd (ad_at x q) (λ o. SameRequest ad o)) (sym (exact_keys k.now other h)) meant.1))
+        by (inr h) = absurd (differs (subst (λ x. IsSomeAnd (ad_at x q) (λ o. SameRequest ad o)) (sym (exact_keys k other h)) meant.1))
 
-    pub passed_by : (found : Option Key) → FirstKey (IsIdleAsking ad q) (Excluded k) found → FirstKey (IsIdleAsking ad q) start found
-    passed_by None none = λ other meant. by other meant (is_past key_cmp start other) refl
+    pub reached_next : (b : Bor Key) (n : Key) → b.now ≡ k → IsFirstKey (IsJobOf Idle q) (Excluded b) n → IsReached ad q start n
+    reached_next b n same f =
+        let above : is_lt (key_cmp k n) ≡ true = ap (λ x. is_lt (key_cmp x n)) (sym same) ∙ f.past in
+        record {
+          idle = f.meant;
+          past = by (is_past key_cmp start n) refl above;
+          first = λ other meant past. f.first other meant.0 (ap (λ x. is_lt (key_cmp x other)) same ∙ behind other meant past);
+        }
       where
-        by : (other : Key) → IsIdleAsking ad q other → (b : Bool) → is_past key_cmp start other ≡ b → is_past key_cmp start other ≡ false
-        by other meant false e = e
-        by other meant true e = let clash = sym (behind other meant e) ∙ none other meant in cc
-    passed_by (Some f) r = record {
-      meant = r.meant;
-      past = past_both start k f first.past r.past;
-      first = λ other meant past. r.first other meant (behind other meant past);
-    }
+        by : (c : Bool) → is_past key_cmp start n ≡ c → is_lt (key_cmp k n) ≡ true → is_past key_cmp start n ≡ true
+        by true e above = e
+        by false e above = let clash = sym r.past ∙ not_past_below key_cmp_total start k n (less_from (key_cmp k n) above) e in cc
+
+    pub none_left : (b : Bor Key) → b.now ≡ k → ((key : Key) → IsJobOf Idle q key → is_past key_cmp (Excluded b) key ≡ false)
+        → (key : Key) → IsIdleAsking ad q key → is_past key_cmp start key ≡ false
+    none_left b same none key meant = by (is_past key_cmp start key) refl
+      where
+        by : (c : Bool) → is_past key_cmp start key ≡ c → is_past key_cmp start key ≡ false
+        by false e = e
+        by true e = let clash = sym (ap (λ x. is_lt (key_cmp x key)) same ∙ behind key meant e) ∙ none key meant.0 in cc

@@ -87,11 +87,11 @@ impl Queue {
     pub fn first_asking<'a>(&'a self, ad: &Ad, start: Bound<&Key>) -> Option<&'a Key>
         ensures { FirstKey (IsIdleAsking ad.now self.now) start.entry (option_copied result) }
     {
-        let key = self.first_of_kind(JobKind::Idle, start)?;
-        if self.asks_same(key, ad) {
-            return Some(key);
+        let mut key = self.first_of_kind(JobKind::Idle, start)?;
+        'idle: while !self.asks_same(key, ad) {
+            key = self.first_of_kind(JobKind::Idle, Bound::Excluded(key))?;
         }
-        self.first_asking(ad, Bound::Excluded(key))
+        Some(key)
     }
 
     // Whether what stands under a key makes the same request as an ad.
