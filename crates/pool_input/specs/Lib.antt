@@ -1,0 +1,7 @@
+pub mod Status
+pub mod Words
+pub mod ReadErrors
+pub mod Faults
+pub mod Readings
+pub mod Submissions
+pub mod Input
