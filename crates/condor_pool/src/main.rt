@@ -96,7 +96,7 @@ fn command(alloc: Global) -> Result<Command<'static>, AllocError> {
     Command::new(alloc, "condor_pool")
         .version(VERSION)
         .about("An HTCondor pool in one process")
-        .override_usage("condor_pool run CONFIG SUBMIT")
+        .override_usage("condor_pool run CONFIG [SUBMIT ...]")
         .disable_help_subcommand(true)
         .subcommand(run)
 }
@@ -105,7 +105,7 @@ fn run_command(alloc: Global) -> Result<Command<'static>, AllocError> {
     Command::new(alloc, "run")
         .about("Runs a pool until nothing is left to do, and prints its user log")
         .arg(file_argument(alloc, "CONFIG", "the pool's configuration"))?
-        .arg(file_argument(alloc, "SUBMIT", "the submit file of its job"))
+        .arg(file_argument(alloc, "SUBMIT", "the submit files of its jobs"))
 }
 
 fn file_argument(alloc: Global, name: &'static str, help: &'static str) -> Arg<'static> {

@@ -1,12 +1,6 @@
-pub mod FirstOf
-pub mod Refusals
+pub mod Spawners
 pub mod PoolRun
 pub mod Playing
 pub mod RunLists
 pub mod UserLogs
-pub mod FormLines
-pub mod Amounts
-pub mod Fitting
-pub mod Lines
 pub mod Pieces
-pub mod ThreeWords

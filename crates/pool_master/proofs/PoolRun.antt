@@ -1,25 +1,31 @@
 -- What a pool's part of a run leaves: without a pool, and with one that was closed or not.
-use Rattle.std.proofs.Common.{◌≡◌, ◌≢◌, ◌∙◌, ◌⊎◌, inl, inr, ℕ, List, [], ◌∷◌, ◌++◌, length, take, codes, Bool, true, false, Option, Some, None, refl, sym, ap, subst}
+use Rattle.std.proofs.Common.{◌≡◌, ◌≢◌, ◌∙◌, ◌⊎◌, inl, inr, ℕ, List, [], ◌∷◌, ◌++◌, length, take, Bool, true, false, Option, Some, None, IfSome, slice_get, refl, sym, ap, subst, arith}
+use Rattle.std.specs.Option.{option_map}
 use Rattle.std.proofs.lemmas.List.{append-nil}
+use Rattle.ad_tree.specs.Ad.{Attributes}
 use Rattle.pool_outer.specs.Cause.{Rose}
+use Rattle.pool_outer.specs.declared.limit.Which.TheVariants as which
 use Rattle.pool_core.specs.declared.history.History.{History}
 use Rattle.pool_core.specs.declared.history.Step.{Step}
 use Rattle.pool_core.specs.PoolValue.{PoolValue}
-use Rattle.pool_core.specs.Histories.{LeadsTo, IsHistory, Shows, submissions_in, ends_in_close}
+use Rattle.pool_core.specs.Histories.{LeadsTo, IsHistory, Shows, ends_in_close, submissions_in}
 use Rattle.pool_core.specs.Moving.{EachMoves}
 use Rattle.pool_core.specs.Reactions.{opening_pool, pool_after}
-use Rattle.pool_master.specs.declared.status.Status.{Status}
-use Rattle.pool_master.specs.declared.status.Status.TheVariants as status
-use Rattle.pool_master.specs.declared.status.Kind.{Kind}
-use Rattle.pool_master.specs.Input.{IsInputOf, IsRefusedOf, IsRefusedInput}
-use Rattle.pool_master.specs.Words.{IsRun}
-use Rattle.pool_master.specs.Follows.{Follows, IsBetween}
+use Rattle.pool_outer.specs.Files.{Contents}
+use Rattle.pool_input.specs.declared.status.Status.{Status}
+use Rattle.pool_input.specs.declared.status.Status.TheVariants as status
+use Rattle.pool_input.specs.Faults.{UnlessFault}
+use Rattle.pool_input.specs.Input.{IsOfFiles, IsRefusedOf, OfFilesFrom, OfInputFrom, IsRefusedInput}
+use Rattle.pool_input.specs.Words.{IsRun}
+use Rattle.pool_input.specs.Readings.{AreRead}
+use Rattle.pool_input.specs.Status.{Stage, AtWords, AtFiles, AtAnyTime, AfterClose, Later, stage_of, IsAtFiles, IsAfterFiles, IsRefusal}
+use Rattle.pool_input.specs.Submissions.{Submits}
+use Rattle.pool_master.specs.Runs.{JobRun, runs_in, runs_on}
+use Rattle.pool_master.specs.Follows.{Follows, HasLaunched, spawner_at, IsBetween, EachGoesOn, AreUntouched, AtEach}
 use Rattle.pool_master.specs.Seen.{SpawnerSeen, SinkSeen}
-use Rattle.pool_master.specs.Status.{Stage, AtWords, AtFiles, AtAnyTime, AfterClose, Later, stage_of, IsAtFiles, IsAfterFiles}
 use Rattle.pool_master.specs.UserLog.{IsUserLog}
-use Rattle.pool_master.specs.Made.{machine_slot}
-use Rattle.pool_master.specs.WholeRun.{last_pool, IsSubmitted, job_left, ClosesFrom, IsClosed, IsReplay, OfJobFrom, OfFilesFrom, OfInputFrom, WritesPart, WritesAll, PoolRuns, HasNothing, IsPrinted}
-use Rattle.pool_master.proofs.Playing.{IsIdle, follows_none}
+use Rattle.pool_master.specs.WholeRun.{last_pool, job_left, ClosesFrom, IsClosed, IsReplay, WritesPart, WritesAll, PoolRuns, HasNothing, IsPrinted, IsAllWritten}
+use Rattle.pool_master.proofs.Spawners.{AreIdle, follows_none}
 
 no_done : {A : Type 0} (s : Status) → stage_of s ≢ AfterClose → s ≡ status.Done → A
 no_done s early is = absurd (early (ap stage_of is))
@@ -33,13 +39,19 @@ no_out_fault s early is = absurd (early (ap stage_of is))
 not_closed : {A : Type 0} (h : History) (left : Bool) → h.opening ≡ None → IsClosed h left → A
 not_closed h left none closed = absurd (subst (λ (o : Option PoolValue). ClosesFrom o h.list left) none closed)
 
+same_place : {P : Type 0} (xs : List P) (m : ℕ) (s t : P) → slice_get xs m ≡ Some s → slice_get xs m ≡ Some t → s ≡ t
+same_place xs m s t one other = let both : Some s ≡ Some t = sym one ∙ other in cc
+
 -- no pool was opened
-pub nothing_runs : {P K : Type 0} (allows : ℕ → Type 0) (spawner : P → SpawnerSeen) (p : P) (sink : K → SinkSeen) (o : K) (s : Status) (h : History) → HasNothing h → h.load ≡ false → stage_of s ≢ AfterClose → IsIdle (spawner p) → PoolRuns allows spawner p p sink o o s h
-nothing_runs allows spawner p sink o s h nothing load early idle = record {
+pub nothing_runs : {P K : Type 0} (allows : ℕ → Type 0) (spawner : P → SpawnerSeen) (ps : List P) (sink : K → SinkSeen) (o : K) (s : Status) (h : History) → HasNothing h → h.load ≡ false → stage_of s ≢ AfterClose → AreIdle spawner ps → PoolRuns allows spawner ps ps sink o o s h
+nothing_runs allows spawner ps sink o s h nothing load early idle = record {
   replay = record { replays = rw nothing.no_opening nothing.none; no_load = load };
   safe = rw nothing.no_opening tt;
-  follows = follows_none allows (spawner p) h.list idle nothing.none;
+  read = rw nothing.none (record { allowed = λ k d below. absurd (omega arith); in_range = λ k d below. absurd (omega arith) });
+  follows = λ m a b was is. rw (nothing.none, ← same_place ps m a b was is) (follows_none (spawner a) (idle m a was));
+  untouched = λ m none. refl;
   all_launched = λ left closed. not_closed h left nothing.no_opening closed;
+  all_ended = λ left closed. not_closed h left nothing.no_opening closed;
   written = λ told. inl refl;
   all_written = λ told ends. record { text = []; is_log = rw nothing.no_opening refl; written = sym (append-nil _) };
   done = λ is. no_done s early is;
@@ -74,10 +86,6 @@ played o list h p opened same is moves shows = record {
   moves = subst (λ (l : List Step). EachMoves o l) (sym same) moves;
   closed = shows.closed ∙ ap ends_in_close (sym same);
 }
-
--- its job is the one that was asked for
-pub played_job : (name : List ℕ) (memory : ℕ) (program : List ℕ) (request : ℕ) (o : PoolValue) (h : History) (p : PoolValue) → h.opening ≡ Some (opening_pool o.slots) → o ≡ opening_pool o.slots → o ≡ opening_pool (machine_slot name memory ∷ []) → p.closed ≡ ends_in_close h.list → (submissions_in h.list ≡ []) ⊎ IsSubmitted program request h.list → (p.closed ≡ true → IsSubmitted program request h.list) → OfJobFrom name memory program request h.opening h.list
-played_job name memory program request o h p opening opened is ends partly closed = rw opening (record { opening_is = sym opened ∙ is; submitted = record { partly = partly; closed = λ end. closed (ends ∙ end) } })
 
 pub played_replay : (h : History) (p : PoolValue) → IsPlayed h p → IsReplay h
 played_replay h p is = record {
@@ -131,20 +139,42 @@ stuck_comes_of status.Memory left before now printed is quiet = inr refl
 stuck_comes_of (status.BadLog line) left before now printed is quiet = absurd printed
 stuck_comes_of (status.Limit which) left before now printed is quiet = absurd printed
 
-no_disk_fault : (s : Status) (left : Bool) (before now : ℕ) → IsPrinted left before now s → (s ≡ status.Done) ⊎ ((s ≡ status.Stuck) ⊎ (s ≡ status.DiskFault)) → (s ≡ status.Done) ⊎ (s ≡ status.Stuck)
-no_disk_fault s left before now printed (inl is) = inl is
-no_disk_fault s left before now printed (inr (inl is)) = inr is
-no_disk_fault s left before now printed (inr (inr is)) = absurd (subst (IsPrinted left before now) is printed)
+closed_alone : (s : Status) (left : Bool) (before now : ℕ) → IsPrinted left before now s → IsAllWritten s → (s ≡ status.Done) ⊎ (s ≡ status.Stuck)
+closed_alone status.Done left before now printed all = inl refl
+closed_alone status.Usage left before now printed all = absurd printed
+closed_alone (status.Input file line kind) left before now printed all = absurd printed
+closed_alone status.Stuck left before now printed all = inr refl
+closed_alone status.DiskFault left before now printed all = absurd printed
+closed_alone status.OutFault left before now printed all = absurd all
+closed_alone status.Memory left before now printed all = absurd all
+closed_alone (status.BadLog line) left before now printed all = absurd printed
+closed_alone (status.Limit which) left before now printed all = absurd printed
+
+-- what is so of each spawner that is there, by its place
+at_place : {P : Type 0} (spawner : P → SpawnerSeen) (ps : List P) (m : ℕ) (t : P) (A : SpawnerSeen → Type 0) → slice_get ps m ≡ Some t → IfSome (spawner_at spawner ps m) A → A (spawner t)
+at_place {P} spawner ps m t A is all = subst (λ (o : Option P). IfSome (option_map spawner o) A) is all
+
+of_place : {P : Type 0} (spawner : P → SpawnerSeen) (ps : List P) (m : ℕ) (t : P) (A : SpawnerSeen → Type 0) → slice_get ps m ≡ Some t → A (spawner t) → IfSome (spawner_at spawner ps m) A
+of_place {P} spawner ps m t A is one = subst (λ (o : Option P). IfSome (option_map spawner o) A) (sym is) one
+
+-- the spawners follow the runs from none on
+pub follows_all : {P : Type 0} (spawner : P → SpawnerSeen) (first now : List P) (before after : List JobRun) → before ≡ [] → AreIdle spawner first → EachGoesOn spawner first now before after → AtEach first now (λ m s t. Follows (spawner s) (spawner t) (runs_on m after))
+follows_all {P} spawner first now before after none idle goes m s t was is =
+    at_place spawner now m t (λ x. Follows (spawner s) x (runs_on m after)) is
+    (goes m (spawner s) (of_place spawner first m s (λ x. Follows (spawner s) x (runs_on m before)) was (rw none (follows_none (spawner s) (idle m s was)))))
 
 -- the pool was closed, and its log was printed or not
-pub printed_runs : {P K : Type 0} (allows : ℕ → Type 0) (spawner : P → SpawnerSeen) (a b : P) (sink : K → SinkSeen) (o q : K) (s : Status) (h : History) (p : PoolValue) → IsPlayed h p → p.closed ≡ true → Follows allows (spawner a) (spawner b) h.list → IsBetween (spawner b) h.list → ((sink o).tells ≡ true → WritesPart h (sink o).written (sink q).written) → ((sink o).tells ≡ true → (s ≡ status.Done) ⊎ (s ≡ status.Stuck) → WritesAll h (sink o).written (sink q).written) → IsPrinted (job_left p) (sink o).faults (sink q).faults s → PoolRuns allows spawner a b sink o q s h
-printed_runs allows spawner a b sink o q s h p is closed follows between part whole printed = record {
+pub printed_runs : {P K : Type 0} (allows : ℕ → Type 0) (spawner : P → SpawnerSeen) (first now : List P) (sink : K → SinkSeen) (o q : K) (s : Status) (h : History) (p : PoolValue) → IsPlayed h p → p.closed ≡ true → AreRead allows h.list → AtEach first now (λ m a b. Follows (spawner a) (spawner b) (runs_on m (runs_in h.list))) → AreUntouched first now (runs_in h.list) → IsBetween spawner now (runs_in h.list) → ((sink o).tells ≡ true → WritesPart h (sink o).written (sink q).written) → ((sink o).tells ≡ true → (s ≡ status.Done) ⊎ (s ≡ status.Stuck) → WritesAll h (sink o).written (sink q).written) → IsPrinted (job_left p) (sink o).faults (sink q).faults s → PoolRuns allows spawner first now sink o q s h
+printed_runs allows spawner first now sink o q s h p is closed read follows untouched between part whole printed = record {
   replay = played_replay h p is;
   safe = rw is.opening_is is.moves;
+  read = read;
   follows = follows;
-  all_launched = λ left c. between;
+  untouched = untouched;
+  all_launched = λ left c m a b was at. at_place spawner now m b (λ x. HasLaunched x (runs_on m (runs_in h.list))) at (between.launched m);
+  all_ended = λ left c. between.ended;
   written = part;
-  all_written = λ told ends. whole told (no_disk_fault s (job_left p) _ _ printed ends);
+  all_written = λ told ends. whole told (closed_alone s (job_left p) _ _ printed ends);
   done = λ e. done_of s (job_left p) _ _ h printed (closes h p is closed) e;
   done_comes = λ c quiet. done_comes_of s (job_left p) _ _ printed (closed_so h p false is c).1 quiet;
   stuck = λ e. stuck_of s (job_left p) _ _ h printed (closes h p is closed) e;
@@ -156,14 +186,17 @@ open_pool_clash : {A : Type 0} (h : History) (p : PoolValue) (left : Bool) → I
 open_pool_clash h p left is open_ closed = absurd (open_ (closed_so h p left is closed).0)
 
 -- out of memory before the pool was closed
-pub open_runs : {P K : Type 0} (allows : ℕ → Type 0) (spawner : P → SpawnerSeen) (a b : P) (sink : K → SinkSeen) (o : K) (h : History) (p : PoolValue) → IsPlayed h p → p.closed ≢ true → Follows allows (spawner a) (spawner b) h.list → PoolRuns allows spawner a b sink o o status.Memory h
-open_runs allows spawner a b sink o h p is open_ follows = record {
+pub open_runs : {P K : Type 0} (allows : ℕ → Type 0) (spawner : P → SpawnerSeen) (first now : List P) (sink : K → SinkSeen) (o : K) (h : History) (p : PoolValue) → IsPlayed h p → p.closed ≢ true → AreRead allows h.list → AtEach first now (λ m a b. Follows (spawner a) (spawner b) (runs_on m (runs_in h.list))) → AreUntouched first now (runs_in h.list) → PoolRuns allows spawner first now sink o o status.Memory h
+open_runs allows spawner first now sink o h p is open_ read follows untouched = record {
   replay = played_replay h p is;
   safe = rw is.opening_is is.moves;
+  read = read;
   follows = follows;
+  untouched = untouched;
   all_launched = λ left c. open_pool_clash h p left is open_ c;
+  all_ended = λ left c. open_pool_clash h p left is open_ c;
   written = λ told. inl refl;
-  all_written = λ told ends. elim ends [ inl e ↦ cc | inr e ↦ elim e [ inl d ↦ cc | inr d ↦ cc ] ];
+  all_written = λ told ends. absurd ends;
   done = λ e. cc;
   done_comes = λ c quiet. open_pool_clash h p false is open_ c;
   stuck = λ e. cc;
@@ -200,27 +233,52 @@ files_no_close AtAnyTime early = λ is. cc
 files_no_close AfterClose early = absurd early
 files_no_close Later early = absurd early
 
--- the machine and the job are those of the files
-pub job_of_files : (file : List ℕ → Option (List ℕ)) (config submit name : List ℕ) (memory : ℕ) (program : List ℕ) (request : ℕ) (opening : Option PoolValue) (list : List Step) → IsInputOf file config submit name memory program request → OfJobFrom name memory program request opening list → OfFilesFrom file config submit opening list
-job_of_files file config submit name memory program request None list input job = tt
-job_of_files file config submit name memory program request (Some p) list input job = record {
-  name = name;
-  memory = memory;
-  program = program;
-  request = request;
-  input = input;
-  of_job = job;
-}
+-- ---- what the files say
+
+-- the history goes on submitting what it did
+pub of_files : (allows : ℕ → Type 0) (file : Contents) (config : List ℕ) (submits : List (List ℕ)) (o : PoolValue) (opening : Option PoolValue) (before after : List Step) → opening ≡ Some o → submissions_in after ≡ submissions_in before → IsOfFiles allows file config submits o before → OfFilesFrom allows file config submits opening after
+of_files allows file config submits o opening before after is same files = rw is (record {
+  configuration = files.configuration;
+  configured = files.configured;
+  opening_is = files.opening_is;
+  submitted = rw same files.submitted;
+})
 
 -- and the files are those that the words name
-pub files_of_input : (file : List ℕ → Option (List ℕ)) (words : List (List ℕ)) (config submit : List ℕ) (opening : Option PoolValue) (list : List Step) → IsRun words config submit → OfFilesFrom file config submit opening list → OfInputFrom file words opening list
-files_of_input file words config submit None list is files = tt
-files_of_input file words config submit (Some p) list is files = record { config = config; submit = submit; words_are = is; files = files }
+pub files_of_input : (allows : ℕ → Type 0) (file : Contents) (words : List (List ℕ)) (config : List ℕ) (submits : List (List ℕ)) (opening : Option PoolValue) (list : List Step) → IsRun words config submits → OfFilesFrom allows file config submits opening list → OfInputFrom allows file words opening list
+files_of_input allows file words config submits None list is files = tt
+files_of_input allows file words config submits (Some p) list is files = record { config = config; submits = submits; words_are = is; files = files }
 
--- the words name one configuration and one submit file
-pub refused_input : (file : List ℕ → Option (List ℕ)) (words : List (List ℕ)) (config submit name : List ℕ) (number : ℕ) (kind : Kind) → IsRun words config submit → IsRefusedInput file words name number kind → IsRefusedOf file config submit name number kind
-refused_input file words config submit name number kind is refused =
-    let same : (codes "run" ∷ refused.config ∷ refused.submit ∷ []) ≡ (codes "run" ∷ config ∷ submit ∷ []) = sym refused.words_are.is ∙ is.is in
-    let one : refused.config ≡ config = cc in
-    let other : refused.submit ≡ submit = cc in
-    subst (λ (s : List ℕ). IsRefusedOf file config s name number kind) other (subst (λ (c : List ℕ). IsRefusedOf file c refused.submit name number kind) one refused.refused)
+-- a status that refuses a file is no fault of the disk and no want of memory
+pub refusal_of : (P : Status → Type 0) (s : Status) → IsRefusal s → UnlessFault P s → P s
+refusal_of P status.Done refuses is = absurd refuses
+refusal_of P status.Usage refuses is = absurd refuses
+refusal_of P (status.Input file line kind) refuses is = is
+refusal_of P status.Stuck refuses is = absurd refuses
+refusal_of P status.DiskFault refuses is = absurd refuses
+refusal_of P status.OutFault refuses is = absurd refuses
+refusal_of P status.Memory refuses is = absurd refuses
+refusal_of P (status.BadLog line) refuses is = absurd refuses
+refusal_of P (status.Limit which) refuses is = is
+
+-- once the files were read, none is refused
+pub late_no_refusal : (s : Status) → IsAfterFiles (stage_of s) → IsRefusal s → ⊥
+late_no_refusal status.Done late refuses = refuses
+late_no_refusal status.Usage late refuses = refuses
+late_no_refusal (status.Input file line kind) late refuses = late
+late_no_refusal status.Stuck late refuses = refuses
+late_no_refusal status.DiskFault late refuses = refuses
+late_no_refusal status.OutFault late refuses = refuses
+late_no_refusal status.Memory late refuses = refuses
+late_no_refusal (status.BadLog line) late refuses = refuses
+late_no_refusal (status.Limit which.Machines) late refuses = late
+late_no_refusal (status.Limit which.Slots) late refuses = late
+late_no_refusal (status.Limit which.Jobs) late refuses = late
+late_no_refusal (status.Limit which.Attributes) late refuses = late
+late_no_refusal (status.Limit which.LogLine) late refuses = late
+late_no_refusal (status.Limit which.Input) late refuses = late
+late_no_refusal (status.Limit which.Bytes) late refuses = late
+late_no_refusal (status.Limit which.Roll) late refuses = late
+late_no_refusal (status.Limit which.Events) late refuses = late
+late_no_refusal (status.Limit which.Users) late refuses = late
+late_no_refusal (status.Limit which.Boots) late refuses = late

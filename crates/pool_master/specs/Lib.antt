@@ -1,9 +1,3 @@
-pub mod Status
-pub mod Words
-pub mod ReadErrors
-pub mod Forms
-pub mod Input
-pub mod Made
 pub mod Runs
 pub mod Seen
 pub mod Follows

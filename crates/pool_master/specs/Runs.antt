@@ -1,5 +1,5 @@
--- The runs of a history.
-use Rattle.std.specs.Prelude.{◌≡◌, ◌⊎◌, ℕ, List, [], ◌∷◌, ◌++◌, map, count_by, Option, Some, None, Bool, true, false, slice_get}
+-- The runs of a history, each with its ending.
+use Rattle.std.specs.Prelude.{◌≡◌, ◌⊎◌, ◌==◌, ℕ, List, [], ◌∷◌, ◌++◌, map, filter, count_by, Option, Some, None, IsSome, Bool, true, false, slice_get, if◌then◌else◌}
 use Rattle.pool_outer.specs.declared.spawner.ChildState.{ChildState}
 use Rattle.pool_outer.specs.declared.spawner.ChildState.TheVariants as child
 use Rattle.pool_outer.specs.declared.spawner.Launch.{Launch}
@@ -10,86 +10,106 @@ use Rattle.pool_core.specs.declared.event.End.TheVariants.{Exited, Signalled, No
 use Rattle.pool_core.specs.declared.event.Event.{Event}
 use Rattle.pool_core.specs.declared.event.Event.TheVariants.{Submit, Start, Ended, Close}
 use Rattle.pool_core.specs.declared.history.Step.{Step}
-use Rattle.pool_core.specs.Histories.{endings_in}
+use Rattle.pool_core.specs.declared.numbers.JobId.{JobId}
+use Rattle.pool_core.specs.declared.numbers.SlotId.{SlotId}
+use Rattle.pool_core.specs.Numbers.{same_job}
 
--- a run that has ended: the Launch answer that began it, and its ending
-pub record EndedRun : Type 0 where
+-- a run of a job on a slot: the Launch answer that began it, and its ending, if it has one
+pub record JobRun : Type 0 where
+  pub job : JobId
+  pub slot : SlotId
   pub launch : Launch
-  pub end : End
+  pub end : Option End
 
-abbrev pub run_with : Option Launch → End → List EndedRun
-run_with None end = []
-run_with (Some launch) end = record { launch = launch; end = end } ∷ []
+-- the ending that an event tells of the job's run
+abbrev pub end_in : JobId → Event → Option End
+end_in job (Submit jobs reading) = None
+end_in job (Start other slot judged reading) = None
+end_in job (Ended other end reading) = if same_job job other then Some end else None
+end_in job (Close reading none) = None
 
--- the run that an event ends, where that launch is running
-abbrev pub run_of_event : Option Launch → Event → List EndedRun
-run_of_event launch (Submit jobs reading) = []
-run_of_event launch (Start job slot judged reading) = []
-run_of_event launch (Ended job end reading) = run_with launch end
-run_of_event launch (Close reading none) = []
+abbrev pub first_end : Option End → Option End → Option End
+first_end None later = later
+first_end (Some end) later = Some end
 
-abbrev pub launch_or : Option Launch → Kept → Option Launch
-launch_or before kept.Done = before
-launch_or before (kept.Launch what) = Some what
+-- how the job's run ends that is running before these steps: by the first ending of the job
+abbrev pub end_after : JobId → List Step → Option End
+end_after job [] = None
+end_after job (s ∷ ss) = first_end (end_in job s.event) (end_after job ss)
 
--- the launch that is running after a step: an ending ends it, and a Launch answer begins one
-abbrev pub running_after_step : Option Launch → Event → Kept → Option Launch
-running_after_step before (Submit jobs reading) answer = launch_or before answer
-running_after_step before (Start job slot judged reading) answer = launch_or before answer
-running_after_step before (Ended job end reading) answer = None
-running_after_step before (Close reading none) answer = launch_or before answer
+-- the run that a step begins, before these steps
+abbrev pub run_begun : Event → Kept → List Step → List JobRun
+run_begun (Submit jobs reading) answer after = []
+run_begun (Start job slot judged reading) kept.Done after = []
+run_begun (Start job slot judged reading) (kept.Launch what) after =
+    record { job = job; slot = slot; launch = what; end = end_after job after } ∷ []
+run_begun (Ended job end reading) answer after = []
+run_begun (Close reading none) answer after = []
 
-abbrev pub running_after : Option Launch → List Step → Option Launch
-running_after before [] = before
-running_after before (s ∷ ss) = running_after (running_after_step before s.event s.kept) ss
+-- the runs of a history, in the order in which they began: a run's number is its place, from 1
+abbrev pub runs_in : List Step → List JobRun
+runs_in [] = []
+runs_in (s ∷ ss) = run_begun s.event s.kept ss ++ runs_in ss
 
-abbrev pub runs_from : Option Launch → List Step → List EndedRun
-runs_from before [] = []
-runs_from before (s ∷ ss) = run_of_event before s.event
-    ++ runs_from (running_after_step before s.event s.kept) ss
+-- those on the slots of a machine
+abbrev pub runs_on : ℕ → List JobRun → List JobRun
+runs_on machine runs = filter (λ r. r.slot.machine == machine) runs
 
--- the launch that is running at the end of a history
-abbrev pub running_launch : List Step → Option Launch
-running_launch list = running_after None list
+-- ---- which have a child
 
--- the runs that have ended, in order
-abbrev pub runs_of : List Step → List EndedRun
-runs_of list = runs_from None list
+-- it has ended, and did start
+abbrev pub has_ended : Option End → Bool
+has_ended None = false
+has_ended (Some (Exited code)) = true
+has_ended (Some (Signalled signal)) = true
+has_ended (Some NotStarted) = false
 
--- a run that did start, which has a child
-abbrev pub child_run : Launch → End → List EndedRun
-child_run launch (Exited code) = record { launch = launch; end = Exited code } ∷ []
-child_run launch (Signalled signal) = record { launch = launch; end = Signalled signal } ∷ []
-child_run launch NotStarted = []
+-- it may have started: nothing says that it didn't
+abbrev pub may_have_started : Option End → Bool
+may_have_started None = true
+may_have_started (Some (Exited code)) = true
+may_have_started (Some (Signalled signal)) = true
+may_have_started (Some NotStarted) = false
 
-abbrev pub runs_with_child : List EndedRun → List EndedRun
-runs_with_child [] = []
-runs_with_child (r ∷ rs) = child_run r.launch r.end ++ runs_with_child rs
+abbrev pub is_not_started : Option End → Bool
+is_not_started None = false
+is_not_started (Some (Exited code)) = false
+is_not_started (Some (Signalled signal)) = false
+is_not_started (Some NotStarted) = true
 
-abbrev pub child_runs : List Step → List EndedRun
-child_runs list = runs_with_child (runs_of list)
+-- those of the runs that did start and have ended
+abbrev pub child_runs : List JobRun → List JobRun
+child_runs runs = filter (λ r. has_ended r.end) runs
 
-abbrev pub is_not_started : End → Bool
-is_not_started (Exited code) = false
-is_not_started (Signalled signal) = false
-is_not_started NotStarted = true
+-- and also those that haven't ended
+abbrev pub possible_runs : List JobRun → List JobRun
+possible_runs runs = filter (λ r. may_have_started r.end) runs
 
--- how many endings say that a run didn't start
-abbrev pub not_started_count : List Step → ℕ
-not_started_count list = count_by is_not_started (endings_in list)
+-- how many of the runs did not start
+abbrev pub not_started_count : List JobRun → ℕ
+not_started_count runs = count_by (λ r. is_not_started r.end) runs
 
--- the launches of these runs
-abbrev pub run_launches : List EndedRun → List Launch
+-- each has ended
+abbrev pub HaveEnded : List JobRun → Type 0
+HaveEnded [] = Unit {0}
+HaveEnded (r ∷ rs) = IsSome r.end × HaveEnded rs
+
+-- ---- what spawners do
+
+abbrev pub run_launches : List JobRun → List Launch
 run_launches runs = map (λ r. r.launch) runs
 
--- what was launched is, in order, each of these runs, and perhaps the one that is running
-abbrev pub LaunchedBy : List EndedRun → Option Launch → List Launch → Type 0
-LaunchedBy runs on launches = (launches ≡ run_launches runs)
-    ⊎ ((launch : Launch) × (on ≡ Some launch) × (launches ≡ run_launches runs ++ launch ∷ []))
+-- what was launched is, in order, each of these runs that did start, and perhaps the one that
+-- hasn't ended
+abbrev pub IsLaunched : List JobRun → List Launch → Type 0
+IsLaunched runs launches = (launches ≡ run_launches (child_runs runs))
+    ⊎ (launches ≡ run_launches (possible_runs runs))
 
--- what was launched is each run of a history that started, and perhaps the one that is running
-abbrev pub IsLaunched : List Step → List Launch → Type 0
-IsLaunched list launches = LaunchedBy (child_runs list) (running_launch list) launches
+-- what was launched for a run that ended so
+abbrev pub child_launch : Launch → End → List Launch
+child_launch what (Exited code) = what ∷ []
+child_launch what (Signalled signal) = what ∷ []
+child_launch what NotStarted = []
 
 -- how a look finds a child that ended so; one that wasn't started isn't looked at
 abbrev pub child_state : End → ChildState
@@ -97,7 +117,10 @@ child_state (Exited code) = child.Exited code
 child_state (Signalled signal) = child.Signalled signal
 child_state NotStarted = child.Running
 
--- the ending of each run that started is the one that was seen of its child
-abbrev pub EndAsSeen : List EndedRun → (ℕ → ChildState) → Type 0
-EndAsSeen runs seen = (k : ℕ) (r : EndedRun)
-    → slice_get runs k ≡ Some r → seen k ≡ child_state r.end
+-- the ending of each of these runs is the one that was seen of its child
+abbrev pub IsSeen : List JobRun → (ℕ → ChildState) → Type 0
+IsSeen runs seen = (k : ℕ) (r : JobRun) (end : End)
+    → slice_get runs k ≡ Some r → r.end ≡ Some end → seen k ≡ child_state end
+
+abbrev pub EndAsSeen : List JobRun → (ℕ → ChildState) → Type 0
+EndAsSeen runs seen = IsSeen (child_runs runs) seen

@@ -12,10 +12,9 @@ use Rattle.pool_core.specs.declared.history.Step.{Step}
 use Rattle.pool_core.specs.declared.numbers.JobId.{JobId}
 use Rattle.pool_core.specs.declared.numbers.SlotId.{SlotId}
 use Rattle.pool_core.specs.declared.slot.SlotAd.{SlotAd}
-use Rattle.pool_core.specs.Numbers.{same_job}
 use Rattle.pool_core.specs.PoolValue.{PoolValue, slot_at}
 use Rattle.pool_core.specs.Reactions.{last_cluster_after}
-use Rattle.pool_master.specs.Runs.{is_not_started}
+use Rattle.pool_master.specs.Runs.{end_after, is_not_started}
 
 abbrev pub nanos_per_second : ℤ
 nanos_per_second = pos 1000000000
@@ -73,17 +72,9 @@ name_in (Some s) = s.name
 abbrev pub slot_name_at : List SlotAd → SlotId → List ℕ
 slot_name_at slots slot = name_in (slot_at slot slots)
 
-abbrev pub next_end : JobId → Event → Bool → Bool
-next_end job (Submit jobs reading) later = later
-next_end job (Start other slot judged reading) later = later
-next_end job (Ended other end reading) later =
-    if same_job job other then is_not_started end else later
-next_end job (Close reading none) later = later
-
 -- the job's run that is running before these events ends as one that didn't start
 abbrev pub never_starts : JobId → List Step → Bool
-never_starts job [] = false
-never_starts job (s ∷ ss) = next_end job s.event (never_starts job ss)
+never_starts job steps = is_not_started (end_after job steps)
 
 -- the entries of so many jobs that are submitted, from a proc on
 abbrev pub AreEntries : ℕ → ℕ → ℕ → ℕ → List ℕ → Type 0

@@ -1,20 +1,19 @@
 -- What a whole run leaves.
-use Rattle.std.specs.Prelude.{◌≡◌, ◌⊎◌, ℕ, List, [], ◌∷◌, ◌++◌, take, slice_get, Bool, true, false, Option, Some, None}
+use Rattle.std.specs.Prelude.{◌≡◌, ◌⊎◌, ℕ, List, [], ◌∷◌, ◌++◌, take, Bool, true, false, Option, Some, None}
 use Rattle.pool_outer.specs.Cause.{Rose}
 use Rattle.pool_core.specs.declared.history.History.{History}
 use Rattle.pool_core.specs.declared.history.Step.{Step}
-use Rattle.pool_core.specs.Histories.{LeadsTo, submissions_in, ends_in_close}
+use Rattle.pool_core.specs.Histories.{LeadsTo, ends_in_close}
 use Rattle.pool_core.specs.Moving.{EachMoves}
 use Rattle.pool_core.specs.PoolValue.{PoolValue}
 use Rattle.pool_core.specs.Reactions.{opening_pool, pool_after}
 use Rattle.pool_core.specs.Jobs.{has_unfinished}
-use Rattle.pool_master.specs.declared.status.Status.{Status}
-use Rattle.pool_master.specs.declared.status.Status.TheVariants as status
-use Rattle.pool_master.specs.Input.{IsInputOf}
-use Rattle.pool_master.specs.Made.{machine_slot, job_ad}
+use Rattle.pool_input.specs.declared.status.Status.{Status}
+use Rattle.pool_input.specs.declared.status.Status.TheVariants as status
+use Rattle.pool_input.specs.Readings.{AreRead}
+use Rattle.pool_master.specs.Runs.{HaveEnded, runs_in, runs_on}
 use Rattle.pool_master.specs.Seen.{SpawnerSeen, SinkSeen}
-use Rattle.pool_master.specs.Follows.{Follows, IsBetween}
-use Rattle.pool_master.specs.Words.{IsRun}
+use Rattle.pool_master.specs.Follows.{Follows, HasLaunched, AreUntouched, AtEach}
 use Rattle.pool_master.specs.UserLog.{IsUserLog}
 
 -- the pool that a history leads to
@@ -54,55 +53,6 @@ IsSafeFrom (Some opening) list = EachMoves opening list
 abbrev pub IsSafe : History → Type 0
 IsSafe history = IsSafeFrom history.opening history.list
 
--- that job was submitted, once and alone, as an ad of the reading at which it was
-abbrev pub IsSubmitted : List ℕ → ℕ → List Step → Type 0
-IsSubmitted program request list = (reading : ℕ)
-    × (submissions_in list ≡ (job_ad program request reading ∷ [], reading) ∷ [])
-
--- what is submitted is that job, if anything is yet, and it is once the history ends in a Close
-pub record Submits (program : List ℕ) (request : ℕ) (list : List Step) : Type 0 where
-  pub partly : (submissions_in list ≡ []) ⊎ IsSubmitted program request list
-  pub closed : ends_in_close list ≡ true → IsSubmitted program request list
-
--- the pool is opened with the one slot of that machine, and that job is submitted
-pub record IsOfJob (name : List ℕ) (memory : ℕ) (program : List ℕ) (request : ℕ)
-    (opening : PoolValue) (list : List Step) : Type 0 where
-  pub opening_is : opening ≡ opening_pool (machine_slot name memory ∷ [])
-  pub submitted : Submits program request list
-
-abbrev pub OfJobFrom : List ℕ → ℕ → List ℕ → ℕ → Option PoolValue → List Step → Type 0
-OfJobFrom name memory program request None list = Unit {0}
-OfJobFrom name memory program request (Some opening) list =
-    IsOfJob name memory program request opening list
-
--- the machine is that of the configuration, and the job that of the submit file
-pub record IsOfFiles (file : List ℕ → Option (List ℕ)) (config submit : List ℕ)
-    (opening : PoolValue) (list : List Step) : Type 0 where
-  pub name : List ℕ
-  pub memory : ℕ
-  pub program : List ℕ
-  pub request : ℕ
-  pub input : IsInputOf file config submit name memory program request
-  pub of_job : IsOfJob name memory program request opening list
-
-abbrev pub OfFilesFrom : (List ℕ → Option (List ℕ)) → List ℕ → List ℕ → Option PoolValue → List Step
-    → Type 0
-OfFilesFrom file config submit None list = Unit {0}
-OfFilesFrom file config submit (Some opening) list = IsOfFiles file config submit opening list
-
--- they are those of the files that the words name
-pub record IsOfInput (file : List ℕ → Option (List ℕ)) (words : List (List ℕ)) (opening : PoolValue)
-    (list : List Step) : Type 0 where
-  pub config : List ℕ
-  pub submit : List ℕ
-  pub words_are : IsRun words config submit
-  pub files : IsOfFiles file config submit opening list
-
-abbrev pub OfInputFrom : (List ℕ → Option (List ℕ)) → List (List ℕ) → Option PoolValue → List Step
-    → Type 0
-OfInputFrom file words None list = Unit {0}
-OfInputFrom file words (Some opening) list = IsOfInput file words opening list
-
 -- nothing was written besides, or a prefix of the history's user log
 abbrev pub WritesPart : History → List ℕ → List ℕ → Type 0
 WritesPart history old new = (new ≡ old)
@@ -114,28 +64,38 @@ pub record WritesAll (history : History) (old new : List ℕ) : Type 0 where
   pub is_log : IsUserLog history text
   pub written : new ≡ old ++ text
 
+-- the statuses of a run whose whole log is written: it came to its close, or a disk fault or a
+-- limit ended it
+abbrev pub IsAllWritten : Status → Type 0
+IsAllWritten status.Done = Unit {0}
+IsAllWritten status.Stuck = Unit {0}
+IsAllWritten status.DiskFault = Unit {0}
+IsAllWritten (status.Limit which) = Unit {0}
+IsAllWritten _ = ⊥
+
 -- no pool was opened, and nothing has happened
 pub record HasNothing (history : History) : Type 0 where
   pub no_opening : history.opening ≡ None
   pub none : history.list ≡ []
 
--- of machine m's spawner, as it was handed over and as it is left
-abbrev pub AtMachine : {P : Type 0} → ℕ → List P → List P → (P → P → Type 0) → Type 0
-AtMachine {P} m before after claim = (s t : P) → slice_get before m ≡ Some s
-    → slice_get after m ≡ Some t → claim s t
-
 -- what a pool's part of a run leaves, whatever its files are: its history beside the clock, the
--- spawner s that became t and the output o that became q, and the statuses that come of it
+-- spawners that were first and are now, the output before and after, and the statuses that come of
+-- it
 pub record PoolRuns {P K : Type 0} (allows : ℕ → Type 0)
-    (spawner : P → SpawnerSeen) (s t : P) (sink : K → SinkSeen) (o q : K)
+    (spawner : P → SpawnerSeen) (first now : List P) (sink : K → SinkSeen) (o q : K)
     (status_is : Status) (history : History) : Type 0 where
   pub replay : IsReplay history
   pub safe : IsSafe history
-  pub follows : Follows allows (spawner s) (spawner t) history.list
-  pub all_launched : (left : Bool) → IsClosed history left → IsBetween (spawner t) history.list
+  pub read : AreRead allows history.list
+  pub follows :
+      AtEach first now
+      (λ m s t. Follows (spawner s) (spawner t) (runs_on m (runs_in history.list)))
+  pub untouched : AreUntouched first now (runs_in history.list)
+  pub all_launched : (left : Bool) → IsClosed history left
+      → AtEach first now (λ m s t. HasLaunched (spawner t) (runs_on m (runs_in history.list)))
+  pub all_ended : (left : Bool) → IsClosed history left → HaveEnded (runs_in history.list)
   pub written : (sink o).tells ≡ true → WritesPart history (sink o).written (sink q).written
-  pub all_written : (sink o).tells ≡ true
-      → (status_is ≡ status.Done) ⊎ ((status_is ≡ status.Stuck) ⊎ (status_is ≡ status.DiskFault))
+  pub all_written : (sink o).tells ≡ true → IsAllWritten status_is
       → WritesAll history (sink o).written (sink q).written
   pub done : status_is ≡ status.Done
       → IsClosed history false × ((sink q).faults ≡ (sink o).faults)

@@ -1,115 +1,71 @@
-ghost use Rattle.std.specs.Prelude.{◌≡◌, ◌≢◌, ◌≤◌, ◌<◌, ◌+◌, ◌^◌, ◌++◌, ◌∷◌, [], ℕ, true, false, None, length, IfOk, OnOk, OnErr, IsTrue, is_ok, ◌↔◌, ◌⊎◌};
+ghost use Rattle.std.specs.Prelude.{◌≡◌, ◌≢◌, ◌≤◌, ◌<◌, ◌+◌, ◌++◌, ◌∷◌, [], ℕ, true, false, None, Some, All, length, slice_get, IfOk, OnOk, OnErr, IsTrue, is_ok, ◌↔◌};
 ghost use Rattle.pool_outer.specs.Cause.{Rose};
 ghost use Rattle.pool_core.specs.declared.answer.Kept.TheVariants as kept;
 ghost use Rattle.pool_core.specs.declared.event.End.TheVariants.{NotStarted};
-ghost use Rattle.pool_core.specs.declared.event.Event.TheVariants.{Submit, Start, Close};
+ghost use Rattle.pool_core.specs.declared.event.Event.TheVariants.{Start, Close};
 ghost use Rattle.pool_core.specs.Answers.{kept_of};
 ghost use Rattle.pool_core.specs.Histories.{submissions_in};
-ghost use Rattle.pool_core.specs.Reactions.{refusal, pool_after, answer_to, opening_pool};
+ghost use Rattle.pool_core.specs.Reactions.{refusal, pool_after, answer_to};
 ghost use Rattle.pool_core.specs.Resting.{IsResting, idle_count};
-ghost use Rattle.pool_master.specs.Made.{job_ad};
-ghost use Rattle.pool_master.specs.Runs.{run_launches, child_run, child_state};
+ghost use Rattle.pool_input.specs.Input.{ArePlaced};
+ghost use Rattle.pool_input.specs.Readings.{AreRead, IsInCalendar};
+ghost use Rattle.pool_master.specs.Runs.{child_launch, child_state, runs_in};
 ghost use Rattle.pool_master.specs.Seen.{spawner_seen};
-ghost use Rattle.pool_master.specs.Follows.{FollowsFrom, FollowsOn, IsBetween, IsInCalendar, HappensOnce};
-ghost use Rattle.pool_master.specs.WholeRun.{IsSubmitted};
+ghost use Rattle.pool_master.specs.Follows.{EachGoesOn, IsBetween, RunsChild, RunsNoChild, RunsOne, StayUntouched};
 
-use crate::form::SubmitFile;
-use crate::made::job_ad;
 use crate::pause::Pause;
 use ad_eval::NoMatch;
-use ad_tree::AdList;
 use ad_value::Memory;
-use pool_core::laws::runs_end_in_rest;
+use pool_core::laws::{events_keep_slots, runs_end_in_rest, starts_are_placed};
 use pool_core::{Answer, Course, End, Event, Next, Pair};
 use pool_outer::{ChildState, Clock, Launch, SpawnError, Spawner};
 use std::alloc::Global;
 use std::sync::Wait;
 
-/// Submits the job of a submit file, runs each idle job that matches a slot, one after the other,
-/// and closes the pool once none does. An error leaves the course as far as it has come.
+/// Runs idle jobs that match a slot, one after the other, and closes the pool once none does: each
+/// when its turn comes, in order, on the first slot that it matches then, and again from the first
+/// where one was found after all. Machine m launches on spawner m. An error leaves the course as
+/// far as it has come. Computes in O(jobs * slots) evaluations for each time that it begins, beside
+/// the children.
 pub fn play<R: Wait, C: Clock, P: Spawner>(
     rt: &R,
     alloc: Global,
     course: &mut Course,
     clock: &C,
-    spawner: &mut P,
-    file: &SubmitFile,
-) -> Result<(), Memory>
-    requires idle { P.count spawner.old ≡ 0 }
-    requires empty { course.old.list ≡ [] }
-    requires opened { course.old.pool ≡ opening_pool course.old.pool.slots }
-    requires small { file.now.memory < 2 ^ 63 }
-    ensures follows { FollowsFrom (C.allows clock.now)
-        (spawner_seen P.tells P.count P.launches P.seen P.killed P.faults) spawner.old spawner.new
-        course.new.list }
-    ensures between { OnOk result (IsBetween
-        (spawner_seen P.tells P.count P.launches P.seen P.killed P.faults spawner.new)
-        course.new.list) }
-    ensures submitted { OnOk result (IsSubmitted file.now.program file.now.memory course.new.list) }
-    ensures partly { (submissions_in course.new.list ≡ [])
-        ⊎ IsSubmitted file.now.program file.now.memory course.new.list }
-    ensures closed { IsTrue (is_ok result) ↔ (course.new.pool.closed ≡ true) }
-    ensures opening { course.new.opening ≡ course.old.opening }
-{
-    submit(alloc, course, clock, file)?;
-    serve(rt, alloc, course, clock, spawner)?;
-    Ok(())
-}
-
-// The job of a submit file comes into the pool, which has none.
-fn submit<C: Clock>(
-    alloc: Global,
-    course: &mut Course,
-    clock: &C,
-    file: &SubmitFile,
-) -> Result<(), Memory>
-    requires opened { course.old.pool ≡ opening_pool course.old.pool.slots }
-    requires small { file.now.memory < 2 ^ 63 }
-    ensures ok { OnOk result (HappensOnce (C.allows clock.now)
-        (λ t. Submit (job_ad file.now.program file.now.memory t ∷ []) t)
-        kept.Done course.old course.new) }
-    ensures err { OnErr result (course.new ≡ course.old) }
-{
-    let reading = clock.read();
-    let ad = job_ad(alloc, file.program.as_str(), file.memory, reading)?;
-    let mut jobs = AdList::new(alloc);
-    jobs.push(ad)?;
-    act(alloc, course, Event::Submit { jobs, reading })?;
-    Ok(())
-}
-
-// Runs each idle job that matches a slot, in order, again and again until none does, and closes the
-// pool.
-fn serve<R: Wait, C: Clock, P: Spawner>(
-    rt: &R,
-    alloc: Global,
-    course: &mut Course,
-    clock: &C,
-    spawner: &mut P,
+    spawners: &mut [P],
 ) -> Result<(), Memory>
     requires resting { IsResting course.old.pool }
+    requires placed { ArePlaced course.old.pool.slots (length spawners.old) }
     requires between { IsBetween
-        (spawner_seen P.tells P.count P.launches P.seen P.killed P.faults spawner.old)
-        course.old.list }
-    ensures follows { FollowsOn (C.allows clock.now)
-        (spawner_seen P.tells P.count P.launches P.seen P.killed P.faults) spawner.old spawner.new
-        course.old.list course.new.list }
+        (spawner_seen P.tells P.count P.launches P.seen P.killed P.faults) spawners.old
+        (runs_in course.old.list) }
+
+    // The history.
+    ensures follows { EachGoesOn
+        (spawner_seen P.tells P.count P.launches P.seen P.killed P.faults)
+        spawners.old spawners.new (runs_in course.old.list) (runs_in course.new.list) }
+    ensures untouched { StayUntouched spawners.old spawners.new
+        (runs_in course.old.list) (runs_in course.new.list) }
     ensures between { OnOk result (IsBetween
-        (spawner_seen P.tells P.count P.launches P.seen P.killed P.faults spawner.new)
-        course.new.list) }
+        (spawner_seen P.tells P.count P.launches P.seen P.killed P.faults) spawners.new
+        (runs_in course.new.list)) }
+    ensures read { AreRead (C.allows clock.now) course.old.list
+        → AreRead (C.allows clock.now) course.new.list }
     ensures submits { submissions_in course.new.list ≡ submissions_in course.old.list }
+
+    // The pool.
     ensures closed { IsTrue (is_ok result) ↔ (course.new.pool.closed ≡ true) }
     ensures opening { course.new.opening ≡ course.old.opening }
 {
     'turns: loop {
-        run_each(rt, alloc, course, clock, spawner)?;
+        run_each(rt, alloc, course, clock, spawners)?;
         let reading = clock.read();
         match course.pool().next(alloc, reading)? {
             Next::Close { none } => {
                 close(alloc, course, reading, none)?;
                 return Ok(());
             }
-            Next::Start { pair } => run_job(rt, alloc, course, clock, spawner, pair, reading)?,
+            Next::Start { pair } => run_job(rt, alloc, course, clock, spawners, pair, reading)?,
         }
     }
 }
@@ -120,30 +76,36 @@ fn run_each<R: Wait, C: Clock, P: Spawner>(
     alloc: Global,
     course: &mut Course,
     clock: &C,
-    spawner: &mut P,
+    spawners: &mut [P],
 ) -> Result<(), Memory>
     requires resting { IsResting course.old.pool }
+    requires placed { ArePlaced course.old.pool.slots (length spawners.old) }
     requires between { IsBetween
-        (spawner_seen P.tells P.count P.launches P.seen P.killed P.faults spawner.old)
-        course.old.list }
+        (spawner_seen P.tells P.count P.launches P.seen P.killed P.faults) spawners.old
+        (runs_in course.old.list) }
 
     // The history.
-    ensures follows { FollowsOn (C.allows clock.now)
-        (spawner_seen P.tells P.count P.launches P.seen P.killed P.faults) spawner.old spawner.new
-        course.old.list course.new.list }
+    ensures follows { EachGoesOn
+        (spawner_seen P.tells P.count P.launches P.seen P.killed P.faults)
+        spawners.old spawners.new (runs_in course.old.list) (runs_in course.new.list) }
+    ensures untouched { StayUntouched spawners.old spawners.new
+        (runs_in course.old.list) (runs_in course.new.list) }
     ensures between { OnOk result (IsBetween
-        (spawner_seen P.tells P.count P.launches P.seen P.killed P.faults spawner.new)
-        course.new.list) }
+        (spawner_seen P.tells P.count P.launches P.seen P.killed P.faults) spawners.new
+        (runs_in course.new.list)) }
+    ensures read { AreRead (C.allows clock.now) course.old.list
+        → AreRead (C.allows clock.now) course.new.list }
     ensures submits { submissions_in course.new.list ≡ submissions_in course.old.list }
 
     // The pool.
     ensures resting { OnOk result (IsResting course.new.pool) }
     ensures no_more { OnOk result (idle_count course.new.pool ≤ idle_count course.old.pool) }
     ensures open { course.new.pool.closed ≡ false }
+    ensures slots { course.new.pool.slots ≡ course.old.pool.slots }
     ensures opening { course.new.opening ≡ course.old.opening }
 {
     'places: for place in 0..course.pool().job_count() {
-        run_at(rt, alloc, course, clock, spawner, place)?;
+        run_at(rt, alloc, course, clock, spawners, place)?;
     }
     Ok(())
 }
@@ -154,32 +116,38 @@ fn run_at<R: Wait, C: Clock, P: Spawner>(
     alloc: Global,
     course: &mut Course,
     clock: &C,
-    spawner: &mut P,
+    spawners: &mut [P],
     place: usize,
 ) -> Result<(), Memory>
     requires resting { IsResting course.old.pool }
+    requires placed { ArePlaced course.old.pool.slots (length spawners.old) }
     requires between { IsBetween
-        (spawner_seen P.tells P.count P.launches P.seen P.killed P.faults spawner.old)
-        course.old.list }
+        (spawner_seen P.tells P.count P.launches P.seen P.killed P.faults) spawners.old
+        (runs_in course.old.list) }
 
     // The history.
-    ensures follows { FollowsOn (C.allows clock.now)
-        (spawner_seen P.tells P.count P.launches P.seen P.killed P.faults) spawner.old spawner.new
-        course.old.list course.new.list }
+    ensures follows { EachGoesOn
+        (spawner_seen P.tells P.count P.launches P.seen P.killed P.faults)
+        spawners.old spawners.new (runs_in course.old.list) (runs_in course.new.list) }
+    ensures untouched { StayUntouched spawners.old spawners.new
+        (runs_in course.old.list) (runs_in course.new.list) }
     ensures between { OnOk result (IsBetween
-        (spawner_seen P.tells P.count P.launches P.seen P.killed P.faults spawner.new)
-        course.new.list) }
+        (spawner_seen P.tells P.count P.launches P.seen P.killed P.faults) spawners.new
+        (runs_in course.new.list)) }
+    ensures read { AreRead (C.allows clock.now) course.old.list
+        → AreRead (C.allows clock.now) course.new.list }
     ensures submits { submissions_in course.new.list ≡ submissions_in course.old.list }
 
     // The pool.
     ensures resting { OnOk result (IsResting course.new.pool) }
     ensures no_more { OnOk result (idle_count course.new.pool ≤ idle_count course.old.pool) }
     ensures open { course.new.pool.closed ≡ false }
+    ensures slots { course.new.pool.slots ≡ course.old.pool.slots }
     ensures opening { course.new.opening ≡ course.old.opening }
 {
     let reading = clock.read();
     match course.pool().pair_at(alloc, place, reading)? {
-        Some(pair) => run_job(rt, alloc, course, clock, spawner, pair, reading),
+        Some(pair) => run_job(rt, alloc, course, clock, spawners, pair, reading),
         None => Ok(()),
     }
 }
@@ -202,38 +170,47 @@ fn run_job<R: Wait, C: Clock, P: Spawner>(
     alloc: Global,
     course: &mut Course,
     clock: &C,
-    spawner: &mut P,
+    spawners: &mut [P],
     pair: Pair,
     reading: u64,
 ) -> Result<(), Memory>
     requires resting { IsResting course.old.pool }
     requires accepted { refusal course.old.pool (Start pair.job pair.slot pair.judged reading)
         ≡ None }
+    requires placed { ArePlaced course.old.pool.slots (length spawners.old) }
     requires allowed { C.allows clock.now reading }
     requires in_range { IsInCalendar reading }
     requires between { IsBetween
-        (spawner_seen P.tells P.count P.launches P.seen P.killed P.faults spawner.old)
-        course.old.list }
+        (spawner_seen P.tells P.count P.launches P.seen P.killed P.faults) spawners.old
+        (runs_in course.old.list) }
 
     // The history.
-    ensures follows { FollowsOn (C.allows clock.now)
-        (spawner_seen P.tells P.count P.launches P.seen P.killed P.faults) spawner.old spawner.new
-        course.old.list course.new.list }
+    ensures follows { EachGoesOn
+        (spawner_seen P.tells P.count P.launches P.seen P.killed P.faults)
+        spawners.old spawners.new (runs_in course.old.list) (runs_in course.new.list) }
+    ensures untouched { StayUntouched spawners.old spawners.new
+        (runs_in course.old.list) (runs_in course.new.list) }
     ensures between { OnOk result (IsBetween
-        (spawner_seen P.tells P.count P.launches P.seen P.killed P.faults spawner.new)
-        course.new.list) }
+        (spawner_seen P.tells P.count P.launches P.seen P.killed P.faults) spawners.new
+        (runs_in course.new.list)) }
+    ensures read { AreRead (C.allows clock.now) course.old.list
+        → AreRead (C.allows clock.now) course.new.list }
     ensures submits { submissions_in course.new.list ≡ submissions_in course.old.list }
 
     // The pool.
     ensures resting { OnOk result (IsResting course.new.pool) }
     ensures fewer { OnOk result (idle_count course.new.pool < idle_count course.old.pool) }
     ensures open { course.new.pool.closed ≡ false }
+    ensures slots { course.new.pool.slots ≡ course.old.pool.slots }
     ensures opening { course.new.opening ≡ course.old.opening }
 {
     runs_end_in_rest();
+    starts_are_placed();
+    events_keep_slots();
     let job = pair.job;
+    let machine = pair.slot.machine as usize;
     let what = course.start(alloc, pair, reading)?;
-    let end = run_child(rt, alloc, spawner, &what)?;
+    let end = run_on(rt, alloc, spawners, machine, &what)?;
     let reading = clock.read();
     act(alloc, course, Event::Ended { job, end, reading })?;
     Ok(())
@@ -255,6 +232,27 @@ fn act(alloc: Global, course: &mut Course, event: Event) -> Result<Answer, Memor
     }
 }
 
+// Launches a child on a machine's spawner, and looks until it has ended.
+fn run_on<R: Wait, P: Spawner>(
+    rt: &R,
+    alloc: Global,
+    spawners: &mut [P],
+    machine: usize,
+    what: &Launch,
+) -> Result<End, Memory>
+    requires { machine < length spawners.old }
+    ensures ran { IfOk result (λ end. RunsOne
+        (spawner_seen P.tells P.count P.launches P.seen P.killed P.faults)
+        machine spawners.old spawners.new (RunsChild what.now end)) }
+    ensures not_run { OnErr result (RunsOne
+        (spawner_seen P.tells P.count P.launches P.seen P.killed P.faults)
+        machine spawners.old spawners.new RunsNoChild) }
+    ensures others { (m : ℕ) → m ≢ machine
+        → slice_get spawners.new m ≡ slice_get spawners.old m }
+{
+    run_child(rt, alloc, &mut spawners[machine], what)
+}
+
 // Launches a child, and looks until it has ended, with pauses; a look that fails is made again.
 fn run_child<R: Wait, P: Spawner>(
     rt: &R,
@@ -263,13 +261,12 @@ fn run_child<R: Wait, P: Spawner>(
     what: &Launch,
 ) -> Result<End, Memory>
     // What was launched.
-    ensures launched { P.tells spawner.old ≡ true
-        → IfOk result (λ end. P.launches spawner.new
-        ≡ P.launches spawner.old ++ run_launches (child_run what.now end)) }
+    ensures launched { P.tells spawner.old ≡ true → IfOk result (λ end.
+        P.launches spawner.new ≡ P.launches spawner.old ++ child_launch what.now end) }
     ensures refused { P.tells spawner.old ≡ true
         → OnErr result (P.launches spawner.new ≡ P.launches spawner.old) }
     ensures count { IfOk result (λ end. P.count spawner.new
-        ≡ P.count spawner.old + length (child_run what.now end)) }
+        ≡ P.count spawner.old + length (child_launch what.now end)) }
     ensures uncounted { OnErr result (P.count spawner.new ≡ P.count spawner.old) }
 
     // What was seen of the children.

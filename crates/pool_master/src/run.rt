@@ -1,27 +1,21 @@
-ghost use Rattle.std.specs.Prelude.{IsErrAnd, ◌≡◌, ◌≢◌, ◌≤◌, ◌⊎◌, ◌↔◌, ◌∷◌, [], ℕ, List, Bool, true, false, None, All, IfOk, IfErr, length, slice_get};
+ghost use Rattle.std.specs.Prelude.{◌≡◌, ◌≢◌, ◌≤◌, ◌⊎◌, ◌↔◌, [], ℕ, List, Bool, true, false, None, Some, All, length, slice_get};
 ghost use Rattle.pool_outer.specs.Cause.{Rose, RoseBy};
 ghost use Rattle.pool_outer.specs.Files.{SameFiles};
-ghost use Rattle.pool_core.specs.Reactions.{opening_pool};
-ghost use Rattle.pool_master.specs.declared.status.Kind.{Kind};
-ghost use Rattle.pool_master.specs.Words.{IsNoRun, texts};
-ghost use Rattle.pool_master.specs.Input.{IsRefusedInput, IsRefusedOf, IsInputOf, IsAnswer};
-ghost use Rattle.pool_master.specs.Runs.{IsLaunched, EndAsSeen, child_runs, run_launches, not_started_count};
+ghost use Rattle.pool_input.specs.Input.{IsRefusedInput, IsRefusedOf, HasSubmitted, OfInputFrom, OfFilesFrom};
+ghost use Rattle.pool_core.specs.Histories.{submissions_in};
+ghost use Rattle.pool_input.specs.Readings.{AreRead, AreReadings};
+ghost use Rattle.pool_input.specs.Status.{stage_of, IsBeforePool, IsRefusal, IsAfterFiles, IsToday};
+ghost use Rattle.pool_input.specs.Words.{IsNoRun, texts};
+ghost use Rattle.pool_master.specs.Runs.{IsLaunched, EndAsSeen, child_runs, not_started_count, run_launches, runs_in, runs_on};
 ghost use Rattle.pool_master.specs.Seen.{spawner_seen, sink_seen};
-ghost use Rattle.pool_master.specs.Follows.{AreRead, AreReadings, IsChildCount};
-ghost use Rattle.pool_master.specs.Made.{machine_slot};
-ghost use Rattle.pool_master.specs.Status.{stage_of, IsBeforePool, IsAtFiles, IsAfterFiles, IsToday};
-ghost use Rattle.pool_master.specs.WholeRun.{IsClosed, IsReplay, IsSafe, OfInputFrom, OfFilesFrom, OfJobFrom, WritesPart, WritesAll, AtMachine, PoolRuns, HasNothing, IsPrinted, job_left};
+ghost use Rattle.pool_master.specs.Follows.{AtEach, IsChildCount, AreUntouched};
+ghost use Rattle.pool_master.specs.WholeRun.{IsAllWritten, IsClosed, IsReplay, IsSafe, WritesPart, WritesAll, PoolRuns, HasNothing, IsPrinted, job_left};
 
-use crate::form::{Config, MOST_MEMORY, SubmitFile};
-use crate::load::{load_config, load_submit};
-use crate::made::machine_slot;
 use crate::output::write_all;
 use crate::play::play;
-use crate::status::Status;
 use crate::user_log::log_text;
-use crate::words::{Named, files_in};
-use ad_value::Memory;
-use pool_core::{Course, Event, History, Pool, SlotAdList, StepList};
+use pool_core::{Course, Event, History, Pool, StepList};
+use pool_input::{Named, Status, files_in, load};
 use pool_outer::{Clock, Gate, Sink, Spawner, Store};
 use std::alloc::Global;
 use std::sync::Wait;
@@ -42,8 +36,9 @@ pub struct Ran<D, P> {
 
 /// Runs a pool, from the words of the command to the printed user log.
 ///
-/// The words are `run CONFIG SUBMIT`. Machine m launches on spawner m; today there is one machine.
-/// The gate and the secret key are for later pools.
+/// The words are `run CONFIG [SUBMIT ...]`. Machine m launches on spawner m, and one job runs at a
+/// time. The gate and the secret key are for later pools. Computes in O(bytes of the files), in
+/// what the jobs take that they ask for, and in O(jobs * slots) evaluations, beside the children.
 pub fn run_pool<
     R: Threads + Wait + Sync + std::rt::Clock,
     D: Store + Send,
@@ -67,48 +62,44 @@ pub fn run_pool<
 
     // The history.
     ensures history { IsReplay result.history }
-    ensures history_input { D.tells store ≡ true
-        → OfInputFrom (D.file store) (texts words.now) result.history.opening result.history.list }
+    ensures history_input { D.tells store ≡ true → OfInputFrom (C.allows clock.now) (D.file store)
+        (texts words.now) result.history.opening result.history.list }
     ensures history_readings { AreRead (C.allows clock.now) result.history.list }
     ensures safe { IsSafe result.history }
     ensures refused { result.refused ≡ None }
 
-    // The children.
-    ensures launched { AtMachine 0 spawners.items result.spawners.items (λ s t. P.tells s ≡ true
-        → IsLaunched result.history.list (P.launches t)) }
-    ensures all_launched { AtMachine 0 spawners.items result.spawners.items (λ s t.
+    // The children of each machine.
+    ensures launched { AtEach spawners.items result.spawners.items (λ m s t. P.tells s ≡ true
+        → IsLaunched (runs_on m (runs_in result.history.list)) (P.launches t)) }
+    ensures all_launched { AtEach spawners.items result.spawners.items (λ m s t.
         P.tells s ≡ true → (left : Bool) → IsClosed result.history left
-        → P.launches t ≡ run_launches (child_runs result.history.list)) }
-    ensures counted { AtMachine 0 spawners.items result.spawners.items (λ s t.
-        IsChildCount result.history.list (P.count t)) }
-    ensures all_counted { AtMachine 0 spawners.items result.spawners.items (λ s t.
+        → P.launches t ≡ run_launches (child_runs (runs_on m (runs_in result.history.list)))) }
+    ensures counted { AtEach spawners.items result.spawners.items (λ m s t.
+        IsChildCount (runs_on m (runs_in result.history.list)) (P.count t)) }
+    ensures all_counted { AtEach spawners.items result.spawners.items (λ m s t.
         (left : Bool) → IsClosed result.history left
-        → P.count t ≡ length (child_runs result.history.list)) }
-    ensures ended { AtMachine 0 spawners.items result.spawners.items (λ s t. P.tells s ≡ true
-        → EndAsSeen (child_runs result.history.list) (P.seen t)) }
-    ensures spared { AtMachine 0 spawners.items result.spawners.items (λ s t. P.tells s ≡ true
+        → P.count t ≡ length (child_runs (runs_on m (runs_in result.history.list)))) }
+    ensures ended { AtEach spawners.items result.spawners.items (λ m s t. P.tells s ≡ true
+        → EndAsSeen (runs_on m (runs_in result.history.list)) (P.seen t)) }
+    ensures spared { AtEach spawners.items result.spawners.items (λ m s t. P.tells s ≡ true
         → (child : ℕ) → P.killed t child ≡ false) }
-    ensures not_started { AtMachine 0 spawners.items result.spawners.items (λ s t.
-        RoseBy (not_started_count result.history.list) (P.faults s) (P.faults t)) }
-    ensures other_spawners { (k : ℕ) → k ≢ 0
-        → slice_get result.spawners.items k ≡ slice_get spawners.items k }
+    ensures not_started { AtEach spawners.items result.spawners.items (λ m s t.
+        RoseBy (not_started_count (runs_on m (runs_in result.history.list)))
+        (P.faults s) (P.faults t)) }
+    ensures untouched { AreUntouched spawners.items result.spawners.items
+        (runs_in result.history.list) }
+    ensures machines { length result.spawners.items ≡ MACHINES }
 
     // The output.
     ensures written { K.tells out.old ≡ true
         → WritesPart result.history (K.written out.old) (K.written out.new) }
-    ensures all_written { K.tells out.old ≡ true
-        → (result.status ≡ Status.Done)
-        ⊎ ((result.status ≡ Status.Stuck) ⊎ (result.status ≡ Status.DiskFault))
+    ensures all_written { K.tells out.old ≡ true → IsAllWritten result.status
         → WritesAll result.history (K.written out.old) (K.written out.new) }
 
     // The statuses.
     ensures status_usage { result.status ≡ Status.Usage ↔ IsNoRun (texts words.now) }
-    ensures status_input { D.tells store ≡ true → (name : List ℕ) (line : ℕ) (kind : Kind)
-        → result.status ≡ Status.Input name line kind
-        → IsRefusedInput (D.file store) (texts words.now) name line kind }
-    ensures status_input_comes { D.tells store ≡ true → (name : List ℕ) (line : ℕ) (kind : Kind)
-        → IsRefusedInput (D.file store) (texts words.now) name line kind
-        → IsAnswer name line kind result.status }
+    ensures status_refused { D.tells store ≡ true → IsRefusal result.status
+        → IsRefusedInput (C.allows clock.now) (D.file store) (texts words.now) result.status }
     ensures status_done { result.status ≡ Status.Done
         → IsClosed result.history false × (K.faults out.new ≡ K.faults out.old) }
     ensures status_done_comes { IsClosed result.history false
@@ -132,8 +123,8 @@ pub fn run_pool<
     ensures store { D.tells store ≡ true
         → SameFiles (D.file store) (D.file result.store) (D.solid store) (D.solid result.store) }
 {
-    let spawner = &mut spawners[0];
-    let (status, history) = run(rt, alloc, words, &mut store, clock, spawner, out);
+    let places = spawners.as_mut_slice();
+    let (status, history) = run(rt, alloc, words, &mut store, clock, places, out);
     Ran {
         status,
         store,
@@ -143,32 +134,30 @@ pub fn run_pool<
     }
 }
 
-// The run, on one store and one spawner that are lent.
+// The run, on a store and spawners that are lent.
 fn run<R: Wait, D: Store, C: Clock, P: Spawner, K: Sink>(
     rt: &R,
     alloc: Global,
     words: &[String],
     store: &mut D,
     clock: &C,
-    spawner: &mut P,
+    spawners: &mut [P],
     out: &mut K,
 ) -> (Status, History)
-    requires idle { P.count spawner.old ≡ 0 }
+    requires machines { length spawners.old ≡ MACHINES }
+    requires idle { All (λ s. P.count s ≡ 0) spawners.old }
     ensures runs { PoolRuns (C.allows clock.now)
-        (spawner_seen P.tells P.count P.launches P.seen P.killed P.faults) spawner.old spawner.new
+        (spawner_seen P.tells P.count P.launches P.seen P.killed P.faults)
+        spawners.old spawners.new
         (sink_seen K.tells K.written K.faults) out.old out.new result.0 result.1 }
 
     // The statuses of the words and the files.
     ensures history_input { D.tells store.old ≡ true
-        → OfInputFrom (D.file store.old) (texts words.now) result.1.opening result.1.list }
+        → OfInputFrom (C.allows clock.now) (D.file store.old) (texts words.now)
+        result.1.opening result.1.list }
     ensures status_usage { result.0 ≡ Status.Usage ↔ IsNoRun (texts words.now) }
-    ensures status_input { D.tells store.old ≡ true → (name : List ℕ) (line : ℕ) (kind : Kind)
-        → result.0 ≡ Status.Input name line kind
-        → IsRefusedInput (D.file store.old) (texts words.now) name line kind }
-    ensures status_input_comes { D.tells store.old ≡ true
-        → (name : List ℕ) (line : ℕ) (kind : Kind)
-        → IsRefusedInput (D.file store.old) (texts words.now) name line kind
-        → IsAnswer name line kind result.0 }
+    ensures status_refused { D.tells store.old ≡ true → IsRefusal result.0
+        → IsRefusedInput (C.allows clock.now) (D.file store.old) (texts words.now) result.0 }
     ensures status_disk_fault { result.0 ≡ Status.DiskFault
         → Rose (D.faults store.old) (D.faults store.new) }
     ensures status_early { IsBeforePool (stage_of result.0) → HasNothing result.1 }
@@ -180,38 +169,35 @@ fn run<R: Wait, D: Store, C: Clock, P: Spawner, K: Sink>(
         → SameFiles (D.file store.old) (D.file store.new) (D.solid store.old) (D.solid store.new) }
 {
     match files_in(words) {
-        Some(named) => run_files(rt, alloc, named, store, clock, spawner, out),
+        Some(named) => run_files(rt, alloc, named, store, clock, spawners, out),
         None => (Status::Usage, no_history(alloc)),
     }
 }
 
-// The run on a configuration and a submit file.
+// The run on a configuration and submit files.
 fn run_files<R: Wait, D: Store, C: Clock, P: Spawner, K: Sink>(
     rt: &R,
     alloc: Global,
     named: Named<'_>,
     store: &mut D,
     clock: &C,
-    spawner: &mut P,
+    spawners: &mut [P],
     out: &mut K,
 ) -> (Status, History)
-    requires idle { P.count spawner.old ≡ 0 }
+    requires machines { length spawners.old ≡ MACHINES }
+    requires idle { All (λ s. P.count s ≡ 0) spawners.old }
     ensures runs { PoolRuns (C.allows clock.now)
-        (spawner_seen P.tells P.count P.launches P.seen P.killed P.faults) spawner.old spawner.new
+        (spawner_seen P.tells P.count P.launches P.seen P.killed P.faults)
+        spawners.old spawners.new
         (sink_seen K.tells K.written K.faults) out.old out.new result.0 result.1 }
 
     // The statuses of the files, and the files themselves.
     ensures files { D.tells store.old ≡ true
-        → OfFilesFrom (D.file store.old) named.entry.config.now named.entry.submit.now
-        result.1.opening result.1.list }
-    ensures refused { D.tells store.old ≡ true → (name : List ℕ) (line : ℕ) (kind : Kind)
-        → result.0 ≡ Status.Input name line kind
-        → IsRefusedOf (D.file store.old) named.entry.config.now named.entry.submit.now name line
-        kind }
-    ensures refuses { D.tells store.old ≡ true → (name : List ℕ) (line : ℕ) (kind : Kind)
-        → IsRefusedOf (D.file store.old) named.entry.config.now named.entry.submit.now name line
-        kind
-        → IsAnswer name line kind result.0 }
+        → OfFilesFrom (C.allows clock.now) (D.file store.old) named.entry.config.now
+        (texts named.entry.submits.now) result.1.opening result.1.list }
+    ensures refused { D.tells store.old ≡ true → IsRefusal result.0
+        → IsRefusedOf (C.allows clock.now) (D.file store.old) named.entry.config.now
+        (texts named.entry.submits.now) result.0 }
     ensures disk_fault { result.0 ≡ Status.DiskFault
         → Rose (D.faults store.old) (D.faults store.new) }
     ensures early { IsBeforePool (stage_of result.0) → HasNothing result.1 }
@@ -219,77 +205,33 @@ fn run_files<R: Wait, D: Store, C: Clock, P: Spawner, K: Sink>(
     ensures store { D.tells store.old ≡ true
         → SameFiles (D.file store.old) (D.file store.new) (D.solid store.old) (D.solid store.new) }
 {
-    match load(alloc, store, named) {
-        Ok((config, file)) => run_job(rt, alloc, config, file, clock, spawner, out),
+    match load(alloc, store, clock, named) {
+        Ok(course) => run_course(rt, alloc, course, clock, spawners, out),
         Err(status) => (status, no_history(alloc)),
     }
 }
 
-// The run of a job on a machine.
-fn run_job<R: Wait, C: Clock, P: Spawner, K: Sink>(
-    rt: &R,
-    alloc: Global,
-    config: Config,
-    file: SubmitFile,
-    clock: &C,
-    spawner: &mut P,
-    out: &mut K,
-) -> (Status, History)
-    requires idle { P.count spawner.old ≡ 0 }
-    requires machine_small { config.memory ≤ MOST_MEMORY }
-    requires job_small { file.memory ≤ MOST_MEMORY }
-    ensures runs { PoolRuns (C.allows clock.now)
-        (spawner_seen P.tells P.count P.launches P.seen P.killed P.faults) spawner.old spawner.new
-        (sink_seen K.tells K.written K.faults) out.old out.new result.0 result.1 }
-    ensures job { OfJobFrom config.name config.memory file.program file.memory result.1.opening
-        result.1.list }
-    ensures late { IsAfterFiles (stage_of result.0) }
-{
-    match open(alloc, &config) {
-        Ok(course) => run_course(rt, alloc, course, file, clock, spawner, out),
-        Err(_) => (Status::Memory, no_history(alloc)),
-    }
-}
-
-// The pool of a machine.
-fn open(alloc: Global, config: &Config) -> Result<Course, Memory>
-    requires { config.now.memory ≤ MOST_MEMORY }
-    ensures opening { IfOk result (λ c. c.opening ≡ opening_pool
-        (machine_slot config.now.name config.now.memory ∷ [])) }
-    ensures list { IfOk result (λ c. c.list ≡ []) }
-    ensures pool { IfOk result (λ c. c.pool ≡ c.opening) }
-{
-    let slot = machine_slot(alloc, config.name.as_str(), config.memory)?;
-    let mut slots = SlotAdList::new(alloc);
-    slots.push(slot)?;
-    let course = Course::open(alloc, slots)?;
-    Ok(course)
-}
-
-// The run of a job on a pool to which nothing has happened.
+// The run of a pool to which only submissions have happened.
 fn run_course<R: Wait, C: Clock, P: Spawner, K: Sink>(
     rt: &R,
     alloc: Global,
     mut course: Course,
-    file: SubmitFile,
     clock: &C,
-    spawner: &mut P,
+    spawners: &mut [P],
     out: &mut K,
 ) -> (Status, History)
-    requires idle { P.count spawner.old ≡ 0 }
-    requires empty { course.list ≡ [] }
-    requires opening { course.opening ≡ opening_pool course.opening.slots }
-    requires opened { course.pool ≡ course.opening }
-    requires small { file.memory ≤ MOST_MEMORY }
+    requires machines { length spawners.old ≡ MACHINES }
+    requires idle { All (λ s. P.count s ≡ 0) spawners.old }
+    requires submitted { HasSubmitted (C.allows clock.now) course }
     ensures runs { PoolRuns (C.allows clock.now)
-        (spawner_seen P.tells P.count P.launches P.seen P.killed P.faults) spawner.old spawner.new
+        (spawner_seen P.tells P.count P.launches P.seen P.killed P.faults)
+        spawners.old spawners.new
         (sink_seen K.tells K.written K.faults) out.old out.new result.0 result.1 }
-    ensures job { (name : List ℕ) (memory : ℕ)
-        → course.opening ≡ opening_pool (machine_slot name memory ∷ [])
-        → OfJobFrom name memory file.program file.memory result.1.opening result.1.list }
+    ensures opening { result.1.opening ≡ Some course.opening }
+    ensures submits { submissions_in result.1.list ≡ submissions_in course.list }
     ensures late { IsAfterFiles (stage_of result.0) }
 {
-    let played = play(rt, alloc, &mut course, clock, spawner, &file);
+    let played = play(rt, alloc, &mut course, clock, spawners);
     let (history, pool) = course.finish();
     match played {
         Ok(()) => (print(alloc, &history, &pool, out), history),
@@ -306,43 +248,6 @@ fn no_history(alloc: Global) -> History
         opening: None,
         load: false,
         list: StepList::new(alloc),
-    }
-}
-
-// Reads the two files, first the configuration.
-fn load<D: Store>(
-    alloc: Global,
-    store: &mut D,
-    named: Named<'_>,
-) -> Result<(Config, SubmitFile), Status>
-    // What is answered of the files.
-    ensures ok { D.tells store.old ≡ true
-        → IfOk result (λ i. IsInputOf (D.file store.old) named.entry.config.now
-        named.entry.submit.now i.0.name i.0.memory i.1.program i.1.memory) }
-    ensures refused { D.tells store.old ≡ true
-        → IfErr result (λ s. (name : List ℕ) (line : ℕ) (kind : Kind) → s ≡ Status.Input name line
-        kind → IsRefusedOf (D.file store.old) named.entry.config.now named.entry.submit.now
-        name line kind) }
-    ensures refuses { D.tells store.old ≡ true → (name : List ℕ) (line : ℕ) (kind : Kind)
-        → IsRefusedOf (D.file store.old) named.entry.config.now named.entry.submit.now name line
-        kind
-        → IsErrAnd result (IsAnswer name line kind) }
-
-    // What else is known of the answer, and the files themselves.
-    ensures small { IfOk result (λ i. (i.0.memory ≤ MOST_MEMORY) × (i.1.memory ≤ MOST_MEMORY)) }
-    ensures early { IfErr result (λ s. IsAtFiles (stage_of s)) }
-    ensures disk_fault { IfErr result
-        (λ s. s ≡ Status.DiskFault → Rose (D.faults store.old) (D.faults store.new)) }
-    ensures same { D.tells store.old ≡ true
-        → SameFiles (D.file store.old) (D.file store.new) (D.solid store.old) (D.solid store.new) }
-{
-    let config = match load_config(alloc, store, named.config) {
-        Ok(config) => config,
-        Err(status) => return Err(status),
-    };
-    match load_submit(alloc, store, named.submit) {
-        Ok(file) => Ok((config, file)),
-        Err(status) => Err(status),
     }
 }
 

@@ -2,7 +2,7 @@ ghost use Rattle.std.specs.Prelude.{◌≡◌, ◌≤◌, ◌<◌, ◌^◌, ◌+
 ghost use Rattle.pool_core.specs.Events.{reading_of};
 ghost use Rattle.pool_core.specs.PoolValue.{slot_at};
 ghost use Rattle.pool_core.specs.Reactions.{takes_number};
-ghost use Rattle.pool_master.specs.Follows.{IsInCalendar, AreReadings};
+ghost use Rattle.pool_input.specs.Readings.{IsInCalendar, AreReadings};
 ghost use Rattle.pool_master.specs.UserLog.{IsStamp, IsEntry, AreEntries, IsSubmitLines, IsStartLines, IsEndLines, IsLines, ArePrinted, IsUserLog, never_starts, last_cluster_with, name_in, slot_name_at, three_digits, numbers_text, submitted_text, held_text};
 
 use ad_tree::AdList;

@@ -6,9 +6,10 @@ use std::alloc::Global;
 #[derive(Clone, Copy)]
 pub(crate) struct RunCase<'a> {
     pub case: Case<'a>,
-    /// The texts of the two files; `-` where there is none.
+    /// The text of the configuration; `-` where there is none.
     pub config: &'a str,
-    pub submit: &'a str,
+    /// Those of the submit files, divided by `¶`; `-` where there is none.
+    pub submits: &'a str,
     /// How `/bin/true` ends; any other program exits with 0.
     pub end: ChildEnd,
     /// The clock's readings, divided by one blank; the last one stays.
@@ -26,7 +27,7 @@ pub(crate) fn read_run<'a>(
     case: Case<'a>,
     fields: &'a [&'a str],
 ) -> Result<RunCase<'a>, CaseError> {
-    let [config, submit, end, readings, part, calls, words @ ..] = fields else {
+    let [config, submits, end, readings, part, calls, words @ ..] = fields else {
         return Err(CaseError::Fields { line: case.line });
     };
     if !is_part(part) {
@@ -35,7 +36,7 @@ pub(crate) fn read_run<'a>(
     Ok(RunCase {
         case,
         config,
-        submit,
+        submits,
         end: read_end(case, end)?,
         readings,
         part,

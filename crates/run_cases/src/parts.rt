@@ -19,7 +19,7 @@ pub(crate) fn words_of(alloc: Global, run: &RunCase<'_>) -> Result<Vec<String>, 
         .try_collect(alloc)
 }
 
-/// The files `pool.conf` and `job.sub`, where they are there.
+/// The files `pool.conf`, `job.sub`, `2.sub` and on, where they are there.
 pub(crate) fn store_of(alloc: Global, run: &RunCase<'_>) -> Result<MemStore, CaseError> {
     let fails = run.failing_calls(alloc, "store")?;
     let files = files_of(alloc, run)?;
@@ -27,11 +27,35 @@ pub(crate) fn store_of(alloc: Global, run: &RunCase<'_>) -> Result<MemStore, Cas
 }
 
 fn files_of(alloc: Global, run: &RunCase<'_>) -> Result<Vec<MemFile>, CaseError> {
-    [("pool.conf", run.config), ("job.sub", run.submit)]
-        .iter()
-        .filter(|(_, text)| *text != "-")
-        .map(|(name, text)| file_of(alloc, run, name, text))
-        .try_collect(alloc)
+    let mut files = Vec::new(alloc);
+    add_file(alloc, run, "pool.conf", run.config, &mut files)?;
+    let mut number = 1u64;
+    for text in run.submits.split('¶') {
+        let name = submit_name(alloc, number)?;
+        add_file(alloc, run, name.as_str(), text, &mut files)?;
+        number = number.saturating_add(1);
+    }
+    Ok(files)
+}
+
+fn submit_name(alloc: Global, number: u64) -> Result<String, CaseError> {
+    match number {
+        1 => Ok(String::from_str(alloc, "job.sub")?),
+        _ => Ok(format!(in alloc; "{number}.sub")?),
+    }
+}
+
+fn add_file(
+    alloc: Global,
+    run: &RunCase<'_>,
+    name: &str,
+    text: &str,
+    files: &mut Vec<MemFile>,
+) -> Result<(), CaseError> {
+    if text != "-" {
+        files.push(file_of(alloc, run, name, text)?)?;
+    }
+    Ok(())
 }
 
 fn file_of(alloc: Global, run: &RunCase<'_>, name: &str, text: &str) -> Result<MemFile, CaseError> {

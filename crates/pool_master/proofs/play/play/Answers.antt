@@ -1,33 +1,48 @@
-use Rattle.std.proofs.Common.{◌∙◌, inr, arith}
-use Rattle.pool_master.proofs.Playing.{follows_none, between_none, submit_follows, submit_between, submit_rests, submit_submits, still_submitted}
+use Rattle.std.proofs.Common.{◌∙◌}
+use Rattle.pool_master.proofs.Playing.{close_submits, close_read, closed_runs}
+use Rattle.pool_master.proofs.Spawners.{goes_on_same, between_same, untouched_same}
 use Rattle.pool_master.proofs.play.play.Goals as goal
 
-pub serve-requires-clause-resting : goal.serve-requires-clause-resting
-serve-requires-clause-resting g c = submit_rests _ _ c.args.course.now c.submit.new.course c.in_ok-submit.ensures.ok c.requires.opened
+pub returns-in-Close-clause-follows : goal.returns-in-Close-clause-follows
+returns-in-Close-clause-follows g c = λ machine first old.
+    let same = closed_runs c.read-reading.result c.in-Close.none c.run_each.new.course.list c.close.new.course.list c.in_ok-close-in-Close.ensures.list c.in_ok-run_each.ensures.between.ended in
+    goes_on_same _ _ _ _ same machine first (c.in_ok-run_each.ensures.follows machine first (c.turns.invariant.follows machine first old))
 
-pub serve-requires-clause-between : goal.serve-requires-clause-between
-serve-requires-clause-between g c =
-    submit_between _ _ _ _ _ c.in_ok-submit.ensures.ok (between_none _ _ (record { none = c.requires.idle; all = g.met.P.Spawner.counted c.args.spawner.now; spared = λ told k. (g.met.P.Spawner.unborn c.args.spawner.now k told (let none = c.requires.idle in omega arith)).1 }) c.requires.empty)
+pub returns-in-Close-clause-untouched : goal.returns-in-Close-clause-untouched
+returns-in-Close-clause-untouched g c = λ first old.
+    let same = closed_runs c.read-reading.result c.in-Close.none c.run_each.new.course.list c.close.new.course.list c.in_ok-close-in-Close.ensures.list c.in_ok-run_each.ensures.between.ended in
+    untouched_same _ _ _ _ same (c.in_ok-run_each.ensures.untouched first (c.turns.invariant.untouched first old))
 
-pub returns-in_err-submit-clause-follows : goal.returns-in_err-submit-clause-follows
-returns-in_err-submit-clause-follows g c = rw c.in_err-submit.ensures.err
-    (follows_none _ _ _ (record { none = c.requires.idle; all = g.met.P.Spawner.counted c.args.spawner.now; spared = λ told k. (g.met.P.Spawner.unborn c.args.spawner.now k told (let none = c.requires.idle in omega arith)).1 }) c.requires.empty)
+pub returns-in-Close-clause-between : goal.returns-in-Close-clause-between
+returns-in-Close-clause-between g c =
+    let same = closed_runs c.read-reading.result c.in-Close.none c.run_each.new.course.list c.close.new.course.list c.in_ok-close-in-Close.ensures.list c.in_ok-run_each.ensures.between.ended in
+    between_same _ _ _ _ same c.in_ok-run_each.ensures.between
 
-pub returns-in_err-serve-clause-follows : goal.returns-in_err-serve-clause-follows
-returns-in_err-serve-clause-follows g c =
-    c.in_err-serve.ensures.follows _ (submit_follows _ _ _ _ _ _ c.in_ok-submit.ensures.ok
-    (follows_none _ _ _ (record { none = c.requires.idle; all = g.met.P.Spawner.counted c.args.spawner.now; spared = λ told k. (g.met.P.Spawner.unborn c.args.spawner.now k told (let none = c.requires.idle in omega arith)).1 }) c.requires.empty))
+pub returns-in-Close-clause-read : goal.returns-in-Close-clause-read
+returns-in-Close-clause-read g c = λ old.
+    close_read _ c.read-reading.result c.in-Close.none c.run_each.new.course.list c.close.new.course.list c.in_ok-close-in-Close.ensures.list c.read-reading.ensures.allowed c.read-reading.ensures.in_range (c.in_ok-run_each.ensures.read (c.turns.invariant.read old))
 
-pub returns-in_err-serve-clause-partly : goal.returns-in_err-serve-clause-partly
-returns-in_err-serve-clause-partly g c = inr (still_submitted _ _ c.submit.new.course.list c.serve.new.course.list c.in_err-serve.ensures.submits (submit_submits _ _ _ _ _ c.in_ok-submit.ensures.ok c.requires.empty))
+pub returns-in-Close-clause-submits : goal.returns-in-Close-clause-submits
+returns-in-Close-clause-submits g c = close_submits c.read-reading.result c.in-Close.none c.run_each.new.course.list c.close.new.course.list c.in_ok-close-in-Close.ensures.list ∙ (c.in_ok-run_each.ensures.submits ∙ c.turns.invariant.submits)
 
-pub returns-clause-follows : goal.returns-clause-follows
-returns-clause-follows g c =
-    c.in_ok-serve.ensures.follows _ (submit_follows _ _ _ _ _ _ c.in_ok-submit.ensures.ok
-    (follows_none _ _ _ (record { none = c.requires.idle; all = g.met.P.Spawner.counted c.args.spawner.now; spared = λ told k. (g.met.P.Spawner.unborn c.args.spawner.now k told (let none = c.requires.idle in omega arith)).1 }) c.requires.empty))
+pub returns-in_err-close-in-Close-clause-untouched : goal.returns-in_err-close-in-Close-clause-untouched
+returns-in_err-close-in-Close-clause-untouched g c = λ first old. rw c.in_err-close-in-Close.ensures.err (c.in_ok-run_each.ensures.untouched first (c.turns.invariant.untouched first old))
 
-pub returns-clause-submitted : goal.returns-clause-submitted
-returns-clause-submitted g c = still_submitted _ _ c.submit.new.course.list c.serve.new.course.list c.in_ok-serve.ensures.submits (submit_submits _ _ _ _ _ c.in_ok-submit.ensures.ok c.requires.empty)
+pub returns-in_err-run_job-in-Start-clause-untouched : goal.returns-in_err-run_job-in-Start-clause-untouched
+returns-in_err-run_job-in-Start-clause-untouched g c = λ first old. c.in_err-run_job-in-Start.ensures.untouched first (c.in_ok-run_each.ensures.untouched first (c.turns.invariant.untouched first old))
 
-pub returns-clause-partly : goal.returns-clause-partly
-returns-clause-partly g c = inr (still_submitted _ _ c.submit.new.course.list c.serve.new.course.list c.in_ok-serve.ensures.submits (submit_submits _ _ _ _ _ c.in_ok-submit.ensures.ok c.requires.empty))
+pub turns-preserved : goal.turns-preserved
+turns-preserved g c =
+    let now = c.in_ok-run_job-in-Start.ensures in
+    let each = c.in_ok-run_each.ensures in
+    let so_far = c.turns.invariant in
+    record {
+      resting = now.resting;
+      between = now.between;
+      follows = λ machine first old. now.follows machine first (each.follows machine first (so_far.follows machine first old));
+      untouched = λ first old. now.untouched first (each.untouched first (so_far.untouched first old));
+      read = λ old. now.read (each.read (so_far.read old));
+      submits = now.submits ∙ (each.submits ∙ so_far.submits);
+      slots = now.slots ∙ (each.slots ∙ so_far.slots);
+      opening = now.opening ∙ (each.opening ∙ so_far.opening);
+    }

@@ -8,8 +8,11 @@ places-preserved g c =
     record {
       resting = now.resting;
       between = now.between;
-      follows = λ first old. now.follows first (so_far.follows first old);
+      follows = λ machine first old. now.follows machine first (so_far.follows machine first old);
+      untouched = λ first old. now.untouched first (so_far.untouched first old);
+      read = λ old. now.read (so_far.read old);
       submits = now.submits ∙ so_far.submits;
       no_more = let less = now.no_more in let before = so_far.no_more in omega arith;
+      slots = now.slots ∙ so_far.slots;
       opening = now.opening ∙ so_far.opening;
     }

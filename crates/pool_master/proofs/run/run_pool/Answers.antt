@@ -1,49 +1,60 @@
-use Rattle.std.proofs.Common.{◌∙◌, arith}
-use Rattle.pool_master.proofs.FirstOf.{first_is, first_set, others_set}
+use Rattle.std.proofs.Common.{◌≡◌, ◌∙◌, List, slice_get, sym, ap, rules}
+use Rattle.pool_master.proofs.Spawners.{lent_whole}
 use Rattle.pool_master.proofs.run.run_pool.Goals as goal
 
 pub run-status-requires : goal.run-status-requires
-run-status-requires g c = record { idle = rw c.index_mut-spawner.ensures.value (c.requires.idle 0 c.index_mut-spawner.result.now (let len = c.requires.machines in omega arith)) }
+run-status-requires g c = rw c.as_mut_slice-places.ensures.value (record { machines = c.requires.machines; idle = c.requires.idle })
 
 pub returns-clause-launched : goal.returns-clause-launched
-returns-clause-launched g c = λ s t was is.
-    let one = first_is c.args.spawners.items c.index_mut-spawner.result.now s c.requires.machines c.index_mut-spawner.ensures.value was in
-    let two = first_set c.args.spawners.items c.run-status.new.spawner t c.requires.machines is in
-    rw (← one, ← two) (λ told. (c.run-status.ensures.runs.follows.served told).launched)
+returns-clause-launched g c = λ m s t was is told.
+    let first = rw (← c.as_mut_slice-places.ensures.value) at was in
+    let whole = lent_whole c.args.spawners.items c.run-status.new.spawners c.args.spawners.len (search rules) (search rules) in
+    let last = sym (ap (λ (l : List g.row.P.Denot). slice_get l m) whole) ∙ is in
+    ((c.run-status.ensures.runs.follows m s t first last).served told).launched
 
 pub returns-clause-all_launched : goal.returns-clause-all_launched
-returns-clause-all_launched g c = λ s t was is.
-    let one = first_is c.args.spawners.items c.index_mut-spawner.result.now s c.requires.machines c.index_mut-spawner.ensures.value was in
-    let two = first_set c.args.spawners.items c.run-status.new.spawner t c.requires.machines is in
-    rw (← one, ← two) (λ told left closed. (c.run-status.ensures.runs.all_launched left closed).launched (c.run-status.ensures.runs.follows.told ∙ told))
+returns-clause-all_launched g c = λ m s t was is told left closed.
+    let first = rw (← c.as_mut_slice-places.ensures.value) at was in
+    let whole = lent_whole c.args.spawners.items c.run-status.new.spawners c.args.spawners.len (search rules) (search rules) in
+    let last = sym (ap (λ (l : List g.row.P.Denot). slice_get l m) whole) ∙ is in
+    (c.run-status.ensures.runs.all_launched left closed m s t first last).launched ((c.run-status.ensures.runs.follows m s t first last).told ∙ told)
 
 pub returns-clause-counted : goal.returns-clause-counted
-returns-clause-counted g c = λ s t was is.
-    let two = first_set c.args.spawners.items c.run-status.new.spawner t c.requires.machines is in
-    rw (← two) c.run-status.ensures.runs.follows.counted
+returns-clause-counted g c = λ m s t was is.
+    let first = rw (← c.as_mut_slice-places.ensures.value) at was in
+    let whole = lent_whole c.args.spawners.items c.run-status.new.spawners c.args.spawners.len (search rules) (search rules) in
+    let last = sym (ap (λ (l : List g.row.P.Denot). slice_get l m) whole) ∙ is in
+    (c.run-status.ensures.runs.follows m s t first last).counted
 
 pub returns-clause-all_counted : goal.returns-clause-all_counted
-returns-clause-all_counted g c = λ s t was is.
-    let two = first_set c.args.spawners.items c.run-status.new.spawner t c.requires.machines is in
-    rw (← two) (λ left closed. (c.run-status.ensures.runs.all_launched left closed).counted)
+returns-clause-all_counted g c = λ m s t was is left closed.
+    let first = rw (← c.as_mut_slice-places.ensures.value) at was in
+    let whole = lent_whole c.args.spawners.items c.run-status.new.spawners c.args.spawners.len (search rules) (search rules) in
+    let last = sym (ap (λ (l : List g.row.P.Denot). slice_get l m) whole) ∙ is in
+    (c.run-status.ensures.runs.all_launched left closed m s t first last).counted
 
 pub returns-clause-ended : goal.returns-clause-ended
-returns-clause-ended g c = λ s t was is.
-    let one = first_is c.args.spawners.items c.index_mut-spawner.result.now s c.requires.machines c.index_mut-spawner.ensures.value was in
-    let two = first_set c.args.spawners.items c.run-status.new.spawner t c.requires.machines is in
-    rw (← one, ← two) (λ told. (c.run-status.ensures.runs.follows.served told).ended)
+returns-clause-ended g c = λ m s t was is told.
+    let first = rw (← c.as_mut_slice-places.ensures.value) at was in
+    let whole = lent_whole c.args.spawners.items c.run-status.new.spawners c.args.spawners.len (search rules) (search rules) in
+    let last = sym (ap (λ (l : List g.row.P.Denot). slice_get l m) whole) ∙ is in
+    ((c.run-status.ensures.runs.follows m s t first last).served told).ended
 
 pub returns-clause-spared : goal.returns-clause-spared
-returns-clause-spared g c = λ s t was is.
-    let one = first_is c.args.spawners.items c.index_mut-spawner.result.now s c.requires.machines c.index_mut-spawner.ensures.value was in
-    let two = first_set c.args.spawners.items c.run-status.new.spawner t c.requires.machines is in
-    rw (← one, ← two) (λ told. (c.run-status.ensures.runs.follows.served told).spared)
+returns-clause-spared g c = λ m s t was is told.
+    let first = rw (← c.as_mut_slice-places.ensures.value) at was in
+    let whole = lent_whole c.args.spawners.items c.run-status.new.spawners c.args.spawners.len (search rules) (search rules) in
+    let last = sym (ap (λ (l : List g.row.P.Denot). slice_get l m) whole) ∙ is in
+    ((c.run-status.ensures.runs.follows m s t first last).served told).spared
 
 pub returns-clause-not_started : goal.returns-clause-not_started
-returns-clause-not_started g c = λ s t was is.
-    let one = first_is c.args.spawners.items c.index_mut-spawner.result.now s c.requires.machines c.index_mut-spawner.ensures.value was in
-    let two = first_set c.args.spawners.items c.run-status.new.spawner t c.requires.machines is in
-    rw (← one, ← two) c.run-status.ensures.runs.follows.not_started
+returns-clause-not_started g c = λ m s t was is.
+    let first = rw (← c.as_mut_slice-places.ensures.value) at was in
+    let whole = lent_whole c.args.spawners.items c.run-status.new.spawners c.args.spawners.len (search rules) (search rules) in
+    let last = sym (ap (λ (l : List g.row.P.Denot). slice_get l m) whole) ∙ is in
+    (c.run-status.ensures.runs.follows m s t first last).not_started
 
-pub returns-clause-other_spawners : goal.returns-clause-other_spawners
-returns-clause-other_spawners g c = λ k other. others_set c.args.spawners.items c.run-status.new.spawner k other
+pub returns-clause-untouched : goal.returns-clause-untouched
+returns-clause-untouched g c = λ m none.
+    let whole = lent_whole c.args.spawners.items c.run-status.new.spawners c.args.spawners.len (search rules) (search rules) in
+    ap (λ (l : List g.row.P.Denot). slice_get l m) whole ∙ (c.run-status.ensures.runs.untouched m none ∙ ap (λ (l : List g.row.P.Denot). slice_get l m) c.as_mut_slice-places.ensures.value)

@@ -1,6 +1,6 @@
 -- The text so far, and whatever the other events print, is what all of them print.
 use Rattle.std.proofs.Common.{◌≤◌, ◌+◌, ◌++◌, ℕ, List, string_bytes, length}
-use Rattle.pool_master.specs.Follows.{AreReadings}
+use Rattle.pool_input.specs.Readings.{AreReadings}
 use Rattle.pool_master.specs.UserLog.{ArePrinted}
 use Rattle.pool_master.proofs.user_log.events_text.Given as goal
 
