@@ -1,0 +1,12 @@
+pub mod SlotStates
+pub mod Secrets
+pub mod Reactions
+pub mod AskTable
+pub mod ActivateTable
+pub mod RunTable
+pub mod ReleaseTable
+pub mod EndingTable
+pub mod TickTable
+pub mod Offers
+pub mod Startds
+pub mod Starting
