@@ -7,18 +7,21 @@ use std::alloc::Global;
 use std::marker::Brand;
 use std::sync::ledger::{Blank, Ledger};
 
-// The moment at which pairs are judged.
-const READING: u64 = 1;
-
-/// The match of a job and a slot. Its step is counted for itself.
-pub(crate) fn judge_pair(alloc: Global, job: &Ad, slot: &Ad) -> Result<Option<Judged>, Memory> {
-    judge_counted::<Brand>(alloc, job, slot, Blank::new(1))
+/// The match of a job and a slot at a reading. Its step is counted for itself.
+pub(crate) fn judge_pair(
+    alloc: Global,
+    job: &Ad,
+    slot: &Ad,
+    reading: u64,
+) -> Result<Option<Judged>, Memory> {
+    judge_counted::<Brand>(alloc, job, slot, reading, Blank::new(1))
 }
 
 fn judge_counted<L: Ledger>(
     alloc: Global,
     job: &Ad,
     slot: &Ad,
+    reading: u64,
     blank: Blank,
 ) -> Result<Option<Judged>, Memory>
     requires name { blank.name ≡ L.name }
@@ -26,5 +29,5 @@ fn judge_counted<L: Ledger>(
     requires some { 0 < blank.parts }
 {
     let mut steps = Steps::<L>::new(blank);
-    judge(alloc, job, slot, READING, &mut steps)
+    judge(alloc, job, slot, reading, &mut steps)
 }

@@ -2,12 +2,14 @@
 //! a line on standard output.
 //!
 //! `next PAIR CUE`, `claim TEXT`, `claim-text MACHINE SLOT BOOT SEQ SECRET`, `job TEXT`,
-//! `job-text CLUSTER PROC`, `safe PART ..`: README.md says what each answers.
+//! `job-text CLUSTER PROC`, `safe PART ..`, and the mails, ends of runs, ticks and boots of a
+//! startd: README.md says what each answers.
 #![tactic(auto)]
 
 mod answers;
 mod judging;
 mod pairs;
+mod startds;
 mod texts;
 mod views;
 

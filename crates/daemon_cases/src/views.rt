@@ -13,6 +13,9 @@ use pool_view::{
 };
 use std::alloc::Global;
 
+// The moment at which pairs are judged.
+const READING: u64 = 1;
+
 /// Whether a view is safe whose parts the fields say.
 pub(crate) fn answer_safe(
     alloc: Global,
@@ -116,7 +119,7 @@ fn add_run(
         memory(ad(alloc, CMD, program))?,
         memory(ad(alloc, NAME, name))?,
     );
-    let Some(judged) = memory(judge_pair(alloc, &job_ad, &slot_ad))? else {
+    let Some(judged) = memory(judge_pair(alloc, &job_ad, &slot_ad, READING))? else {
         return Err(CaseError::Form { line: case.line });
     };
     let run = Run {
