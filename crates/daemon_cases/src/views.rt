@@ -100,7 +100,7 @@ fn add_job(
     };
     let entry = Entry {
         core: memory(ad(alloc, CMD, program))?,
-        state: state_of(case, state)?,
+        state: read_state(case, state)?,
     };
     let job = job_of(case, job)?;
     memory(view.jobs.push(JobEntry { job, entry }))
@@ -151,7 +151,7 @@ fn add_number(case: Case<'_>, words: &[&str], jobs: &mut JobIdList) -> Result<()
     memory(jobs.push(job_of(case, job)?))
 }
 
-fn state_of(case: Case<'_>, words: &[&str]) -> Result<State, CaseError> {
+fn read_state(case: Case<'_>, words: &[&str]) -> Result<State, CaseError> {
     match words {
         ["Idle"] => Ok(State::Idle),
         ["Held"] => Ok(State::Held),
