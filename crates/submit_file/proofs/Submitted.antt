@@ -241,7 +241,7 @@ module _ (h : Common) (owner : HasReadableLiteral (text h.owner)) where
   module _ (f : LinesSoFar) (t : Macros) (n : ℕ) where
     good_effect : (o : Origin) (e : Effect) → IsGoodOrigin o → Gives h f t n o e → IsGood e
     good_effect o _ good (nothing_set none) = good_unset o (record { line = n; statement = n })
-    good_effect o _ good (is_set {s = s} {r = r} set replaced) = good_set o (place_of s n) r good
+    good_effect o _ good (is_set {s = s} {r = r} set _) = good_set o (place_of s n) r good
 
     module _ (c p : ℕ) (s : Option Tree) where
       taken_keeps : (e : Effect) (d : JobDraft) → IsGood e → FactsIf c p s d.ad → FactsIf c p s (with_effect e d).ad
