@@ -3,6 +3,8 @@
 #![tactic(auto)]
 
 #[cfg(test)]
+mod ads;
+#[cfg(test)]
 mod clock;
 #[cfg(test)]
 mod sink;
