@@ -1,5 +1,5 @@
 //! Tests of the outside over real files, children, clocks and writers, of files in memory at each
-//! stop, and of what threads take.
+//! stop, of what threads take, and of an ad that goes to one.
 #![tactic(auto)]
 
 #[cfg(test)]
