@@ -1,4 +1,5 @@
 use crate::accounts::{answer_accounts, open_accounts};
+use crate::clustering::answer_clusters;
 use crate::collecting::{answer_collector, expire_ads, open_collector};
 use crate::negotiating::answer_cycle;
 use crate::snapshots::{add_offer, add_request, add_submitter, empty_snapshot, open_snapshot};
@@ -66,6 +67,9 @@ fn answer(
     match case.kind {
         "update" | "update-many" | "forget" | "offered" => {
             answer_collector(alloc, case, &mut state.collector, out)
+        }
+        "significant" | "clusters" | "judgements" => {
+            answer_clusters(alloc, case, &state.snapshot, out)
         }
         "cycle" => answer_cycle(alloc, case, &state.snapshot, out),
         _ => answer_accounts(alloc, case, &mut state.accounts, out),

@@ -7,6 +7,7 @@
 
 mod accounts;
 mod answers;
+mod clustering;
 mod collecting;
 mod negotiating;
 mod readers;

@@ -1,0 +1,7 @@
+mod Members
+mod Places
+pub mod Alike
+mod LinkLemmas
+mod Reaches
+mod Named
+pub mod Agreeing

@@ -1,0 +1,4 @@
+pub mod Significant
+pub mod Links
+pub mod Clustering
+pub mod Laws
