@@ -21,7 +21,8 @@ pub record IsNumbered (old new : Clustering) (job : Attributes) (number : ℕ) :
   pub of_job : IsSignificantPart old.slots job part
   pub at_number : slice_get new.parts number ≡ Some part
   pub slots : new.slots ≡ old.slots
-  pub parts : (new.parts ≡ old.parts) ⊎ ((new.parts ≡ old.parts ++ part ∷ []) × (number ≡ length old.parts))
+  pub parts : (new.parts ≡ old.parts)
+      ⊎ ((new.parts ≡ old.parts ++ part ∷ []) × (number ≡ length old.parts))
 
 -- links that stand for what expressions of slots refer to
 abbrev pub AreLinksOf : List Attributes → List Link → Type 0

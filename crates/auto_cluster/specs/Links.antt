@@ -13,7 +13,8 @@ is_linked ls x y = list_any (λ l. same_name x l.from && same_name y l.to) ls
 
 -- a list has the old links, and one from a name to each of some
 abbrev pub HasAlso : List Link → List Link → List ℕ → (List ℕ → Bool) → Type 0
-HasAlso old new x to = (y z : List ℕ) → is_linked new y z ≡ (is_linked old y z || (same_name y x && to z))
+HasAlso old new x to = (y z : List ℕ)
+    → is_linked new y z ≡ (is_linked old y z || (same_name y x && to z))
 
 -- a list has the old links, and these
 abbrev pub HasLinks : List Link → List Link → (List ℕ → List ℕ → Bool) → Type 0

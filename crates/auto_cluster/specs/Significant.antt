@@ -1,5 +1,5 @@
--- Which attributes of a job can influence a match with some slots (HTCondor manual, condor_negotiator,
--- significant attributes and autoclusters). Names are without case.
+-- Which attributes of a job can influence a match with some slots (HTCondor manual,
+-- condor_negotiator, significant attributes and autoclusters). Names are without case.
 use Rattle.std.specs.Prelude.{◌≡◌, ◌↔◌, ℕ, Bool, true, false, ◌&&◌, ◌||◌, List, ◌∷◌, filter}
 use Rattle.std.specs.List.{list_any}
 use Rattle.ad_value.specs.Names.{same_name}
@@ -31,12 +31,13 @@ abbrev mutual
 abbrev pub leads_to : List ℕ → List ℕ → Attributes → Bool
 leads_to x y ad = list_any (λ a. same_name x a.0 && refers_to a.1 y) ad
 
--- the least set of names without case that holds the first ones and, with a name, each that it leads
--- to
+-- the least set of names without case that holds the first ones and, with a name, each that it
+-- leads to
 pub data Reach (first : List ℕ → Bool) (leads : List ℕ → List ℕ → Bool) : List ℕ → Type 0 where
   begins : (x : List ℕ) → first x ≡ true → Reach first leads x
   goes_on : (x y : List ℕ) → Reach first leads x → leads x y ≡ true → Reach first leads y
-  without_case : (x y : List ℕ) → Reach first leads x → same_name x y ≡ true → Reach first leads y
+  without_case : (x y : List ℕ) → Reach first leads x → same_name x y ≡ true
+      → Reach first leads y
 
 abbrev pub is_first_name : List ℕ → Bool
 is_first_name x = same_name x REQUIREMENTS.now || same_name x RANK.now
@@ -52,7 +53,8 @@ pub record IsSignificantPart (slots : List Attributes) (job part : Attributes) :
   pub are : part ≡ filter (λ a. chosen a.0) job
 
 -- their names, as the job spells them
-pub record Significant (slots : List Attributes) (job : Attributes) (xs : List (List ℕ)) : Type 0 where
+pub record Significant (slots : List Attributes) (job : Attributes) (xs : List (List ℕ))
+    : Type 0 where
   pub part : Attributes
   pub of_job : IsSignificantPart slots job part
   pub are : xs ≡ names part

@@ -9,8 +9,8 @@ fn with_number(alloc: Global, ad: Ad, name: &str, number: i64) -> Result<Ad, Set
     Ok(ad)
 }
 
-// How many attributes an ad has while a copy of it gets one more in another thread, and how many the
-// copy has then.
+// How many attributes an ad has while a copy of it gets one more in another thread, and how many
+// the copy has then.
 fn lengths_of_copies(rt: &impl Threads, alloc: Global) -> Result<(usize, usize), SetError> {
     let ad = with_number(alloc, Ad::new(alloc), "Cpus", 1)?;
     let copy = ad.copy(alloc)?;
