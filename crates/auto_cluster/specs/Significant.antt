@@ -33,11 +33,11 @@ leads_to x y ad = list_any (λ a. same_name x a.0 && refers_to a.1 y) ad
 
 -- the least set of names without case that holds the first ones and, with a name, each that it
 -- leads to
-pub data Reach (first : List ℕ → Bool) (leads : List ℕ → List ℕ → Bool) : List ℕ → Type 0 where
+pub data Reach (first : List ℕ → Bool) (leads : List ℕ → List ℕ → Bool)
+    : List ℕ → Type 0 where
   begins : (x : List ℕ) → first x ≡ true → Reach first leads x
   goes_on : (x y : List ℕ) → Reach first leads x → leads x y ≡ true → Reach first leads y
-  without_case : (x y : List ℕ) → Reach first leads x → same_name x y ≡ true
-      → Reach first leads y
+  without_case : (x y : List ℕ) → Reach first leads x → same_name x y ≡ true → Reach first leads y
 
 abbrev pub is_first_name : List ℕ → Bool
 is_first_name x = same_name x REQUIREMENTS.now || same_name x RANK.now
@@ -53,8 +53,8 @@ pub record IsSignificantPart (slots : List Attributes) (job part : Attributes) :
   pub are : part ≡ filter (λ a. chosen a.0) job
 
 -- their names, as the job spells them
-pub record Significant (slots : List Attributes) (job : Attributes) (xs : List (List ℕ))
-    : Type 0 where
+pub record Significant (slots : List Attributes) (job : Attributes) (xs : List (List ℕ)) :
+    Type 0 where
   pub part : Attributes
   pub of_job : IsSignificantPart slots job part
   pub are : xs ≡ names part
