@@ -20,6 +20,8 @@ use Rattle.queue_tx.specs.Keys.{key_cmp, key_cmp_total, same_key}
 use Rattle.queue_tx.specs.Jobs.{kind_under, kind_at, IsJobOf, IsFirstKey, FirstKey}
 use Rattle.queue_tx.specs.Queues.{KeyedAds, ad_at}
 use Rattle.queue_tx.specs.Requests.{SameRequest, IsIdleAsking}
+use Rattle.queue_tx.specs.Asked.{IsAskedBy}
+use Rattle.queue_tx.proofs.AskedJobs.{idle_from_asked}
 use Rattle.queue_tx.proofs.Queues.{exact_keys}
 use Rattle.queue_tx.proofs.Transactions.{same_keys}
 
@@ -81,52 +83,59 @@ job_is_there kind q key h = by key (ad_at key q) h
     by (Proc job) None h = cc
     by (Proc job) (Some ad) h = refl
 
--- ---- from one idle job to the next
+-- ---- from one idle job of a digest to the next
 
 after_or_equal : (r : Ordering) → is_gt r ≡ false → (r ≡ Less) ⊎ (r ≡ Equal)
 after_or_equal Less h = inl refl
 after_or_equal Equal h = inr refl
 after_or_equal Greater h = cc
 
--- an idle job past the bound, before which none that is past it asks for the same
-pub record IsReached (ad : Attributes) (q : KeyedAds) (start : Bound (Bor Key)) (key : Key) : Type 0 where
-  pub idle : IsJobOf Idle q key
+-- an idle job of the digest past the bound, before which none that is past it asks for the same
+pub record IsReached (ad : Attributes) (q : KeyedAds) (d : ℕ) (start : Bound (Bor Key)) (key : Key) : Type 0 where
+  pub listed : IsAskedBy d q key
   pub past : is_past key_cmp start key ≡ true
   pub first : (other : Key) → IsIdleAsking ad q other → is_past key_cmp start other ≡ true → is_gt (key_cmp key other) ≡ false
 
-module _ (ad : Attributes) (q : KeyedAds) (start : Bound (Bor Key)) where
-  pub reached_first : (key : Key) → IsFirstKey (IsJobOf Idle q) start key → IsReached ad q start key
-  reached_first key f = record { idle = f.meant; past = f.past; first = λ other meant past. f.first other meant.0 past }
+module _ (ad : Attributes) (q : KeyedAds) (d : ℕ) (start : Bound (Bor Key)) where
+  pub asks : (key : Key) → IsReached ad q d start key → IsSomeAnd (ad_at key q) (λ other. SameRequest ad other) → IsFirstKey (IsIdleAsking ad q) start key
+  asks key r same = record { meant = (idle_from_asked q d key r.listed, same); past = r.past; first = r.first }
 
-  pub asks : (key : Key) → IsReached ad q start key → IsSomeAnd (ad_at key q) (λ other. SameRequest ad other) → IsFirstKey (IsIdleAsking ad q) start key
-  asks key r same = record { meant = (r.idle, same); past = r.past; first = r.first }
+  module _ (all : (key : Key) → IsIdleAsking ad q key → IsAskedBy d q key) where
+    pub reached_first : (key : Key) → IsFirstKey (IsAskedBy d q) start key → IsReached ad q d start key
+    reached_first key f = record { listed = f.meant; past = f.past; first = λ other meant past. f.first other (all other meant) past }
 
-  module _ (k : Key) (r : IsReached ad q start k) (differs : IsSomeAnd (ad_at k q) (λ other. SameRequest ad other) → ⊥) where
-    -- one that asks for the same is behind one that doesn't
-    behind : (other : Key) → IsIdleAsking ad q other → is_past key_cmp start other ≡ true → is_lt (key_cmp k other) ≡ true
-    behind other meant past = by (after_or_equal (key_cmp k other) (r.first other meant past))
-      where
-        by : (key_cmp k other ≡ Less) ⊎ (key_cmp k other ≡ Equal) → is_lt (key_cmp k other) ≡ true
-        by (inl h) = ap is_lt h
-        by (inr h) = absurd (differs (subst (λ x. IsSomeAnd (ad_at x q) (λ o. SameRequest ad o)) (sym (exact_keys k other h)) meant.1))
+    pub none_asks : ((key : Key) → IsAskedBy d q key → is_past key_cmp start key ≡ false) → (key : Key) → IsIdleAsking ad q key → is_past key_cmp start key ≡ false
+    none_asks none key meant = none key (all key meant)
 
-    pub reached_next : (b : Bor Key) (n : Key) → b.now ≡ k → IsFirstKey (IsJobOf Idle q) (Excluded b) n → IsReached ad q start n
-    reached_next b n same f =
-        let above : is_lt (key_cmp k n) ≡ true = ap (λ x. is_lt (key_cmp x n)) (sym same) ∙ f.past in
-        record {
-          idle = f.meant;
-          past = by (is_past key_cmp start n) refl above;
-          first = λ other meant past. f.first other meant.0 (ap (λ x. is_lt (key_cmp x other)) same ∙ behind other meant past);
-        }
-      where
-        by : (c : Bool) → is_past key_cmp start n ≡ c → is_lt (key_cmp k n) ≡ true → is_past key_cmp start n ≡ true
-        by true e above = e
-        by false e above = let clash = sym r.past ∙ not_past_below key_cmp_total start k n (less_from (key_cmp k n) above) e in cc
+    module _ (k : Key) (r : IsReached ad q d start k) (differs : IsSomeAnd (ad_at k q) (λ other. SameRequest ad other) → ⊥) where
+      -- one that asks for the same is behind one that doesn't
+      behind : (other : Key) → IsIdleAsking ad q other → is_past key_cmp start other ≡ true → is_lt (key_cmp k other) ≡ true
+      behind other meant past = by (after_or_equal (key_cmp k other) (r.first other meant past))
+        where
+          by : (key_cmp k other ≡ Less) ⊎ (key_cmp k other ≡ Equal) → is_lt (key_cmp k other) ≡ true
+          by (inl h) = ap is_lt h
+          by (inr h) = absurd (differs (subst (λ x. IsSomeAnd (ad_at x q) (λ o. SameRequest ad o)) (sym (exact_keys k other h)) meant.1))
 
-    pub none_left : (b : Bor Key) → b.now ≡ k → ((key : Key) → IsJobOf Idle q key → is_past key_cmp (Excluded b) key ≡ false)
-        → (key : Key) → IsIdleAsking ad q key → is_past key_cmp start key ≡ false
-    none_left b same none key meant = by (is_past key_cmp start key) refl
-      where
-        by : (c : Bool) → is_past key_cmp start key ≡ c → is_past key_cmp start key ≡ false
-        by false e = e
-        by true e = let clash = sym (ap (λ x. is_lt (key_cmp x key)) same ∙ behind key meant e) ∙ none key meant.0 in cc
+      pub reached_next : (b : Bor Key) (n : Key) → b.now ≡ k → IsFirstKey (IsAskedBy d q) (Excluded b) n → IsReached ad q d start n
+      reached_next b n same f =
+          let above : is_lt (key_cmp k n) ≡ true = ap (λ x. is_lt (key_cmp x n)) (sym same) ∙ f.past in
+          record {
+            listed = f.meant;
+            past = by (is_past key_cmp start n) refl above;
+            first = λ other meant past. f.first other (all other meant) (ap (λ x. is_lt (key_cmp x other)) same ∙ behind other meant past);
+          }
+        where
+          by : (c : Bool) → is_past key_cmp start n ≡ c → is_lt (key_cmp k n) ≡ true → is_past key_cmp start n ≡ true
+          by true e above = e
+          by false e above = let clash = sym r.past ∙ not_past_below key_cmp_total start k n (less_from (key_cmp k n) above) e in cc
+
+      pub none_left : (b : Bor Key) → b.now ≡ k → ((key : Key) → IsAskedBy d q key → is_past key_cmp (Excluded b) key ≡ false)
+          → (key : Key) → IsIdleAsking ad q key → is_past key_cmp start key ≡ false
+      none_left b same none key meant = by (is_past key_cmp start key) refl
+        where
+          by : (c : Bool) → is_past key_cmp start key ≡ c → is_past key_cmp start key ≡ false
+          by false e = e
+          by true e = let clash = sym (ap (λ x. is_lt (key_cmp x key)) same ∙ behind key meant e) ∙ none key (all key meant) in cc
+
+pub asked_is_there : (d : ℕ) (q : KeyedAds) (key : Key) → IsAskedBy d q key → is_some (ad_at key q) ≡ true
+asked_is_there d q key h = job_is_there Idle q key (idle_from_asked q d key h)

@@ -79,7 +79,7 @@ kinds_without old new key q r s are sets changed =
 
 -- ---- the first of a kind
 
-kind_from : (k : JobKind) (o : Option JobKind) → is_kind k o ≡ true → o ≡ Some k
+pub kind_from : (k : JobKind) (o : Option JobKind) → is_kind k o ≡ true → o ≡ Some k
 kind_from Idle (Some Idle) h = refl
 kind_from Held (Some Held) h = refl
 kind_from Under (Some Under) h = refl
@@ -93,7 +93,7 @@ kind_from Held (Some Under) h = cc
 kind_from Under (Some Idle) h = cc
 kind_from Under (Some Held) h = cc
 
-kind_itself : (k : JobKind) → is_kind k (Some k) ≡ true
+pub kind_itself : (k : JobKind) → is_kind k (Some k) ≡ true
 kind_itself Idle = refl
 kind_itself Held = refl
 kind_itself Under = refl

@@ -5,4 +5,7 @@ pub mod Transactions
 pub mod KeptJobs
 pub mod RequestLemmas
 pub mod Rooms
+pub mod RequestDigests
+pub mod AskedJobs
+pub mod KindParts
 pub mod Asking

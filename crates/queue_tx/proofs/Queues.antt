@@ -25,7 +25,7 @@ use Rattle.queue_tx.specs.Queues.{KeyedAds, Changes, IsQueue, ad_at, key_after, 
 
 -- ---- keys that the order finds equal are equal
 
-then_equal : (r s : Ordering) → ordering_then r s ≡ Equal → (r ≡ Equal) × (s ≡ Equal)
+pub then_equal : (r s : Ordering) → ordering_then r s ≡ Equal → (r ≡ Equal) × (s ≡ Equal)
 then_equal Less s h = cc
 then_equal Equal s h = (refl, h)
 then_equal Greater s h = cc

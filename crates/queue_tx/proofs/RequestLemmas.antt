@@ -14,7 +14,7 @@ any_alike : (a b : List ℕ) → same_name a b ≡ true → (names : List (List 
 any_alike a b h [] = refl
 any_alike a b h (n ∷ names) = λ i. same_name_equivalence.congr a b n h i || any_alike a b h names i
 
-asked_alike : (a b : List ℕ) → same_name a b ≡ true → is_asked a ≡ is_asked b
+pub asked_alike : (a b : List ℕ) → same_name a b ≡ true → is_asked a ≡ is_asked b
 asked_alike a b h = ap not (any_alike a b h names_beside_request)
 
 pub lookup_alike : (a b : List ℕ) → same_name a b ≡ true → (ad : Attributes) → lookup a ad ≡ lookup b ad

@@ -2,12 +2,14 @@
 use Rattle.std.specs.Prelude.{◌≡◌, ◌<◌, ◌≤◌, ◌⊎◌, ◌↔◌, ℕ, true, false, List, ◌∷◌, ◌++◌, length, Ok, Err}
 use Rattle.std.specs.declared.cmp.Ordering.TheVariants.{Less}
 use Rattle.claim_id.specs.declared.numbers.JobId.{JobId}
-use Rattle.ad_tree.specs.Ad.{Attributes, IsAd}
+use Rattle.ad_tree.specs.Ad.{Attributes, AreDistinct, IsAd}
 use Rattle.queue_tx.specs.declared.error.ApplyError.{ApplyError}
 use Rattle.queue_tx.specs.declared.key.Key.{Key}
 use Rattle.queue_tx.specs.declared.key.Key.TheVariants.{Header, Proc}
 use Rattle.queue_tx.specs.Keys.{key_cmp, same_key}
 use Rattle.queue_tx.specs.Operations.{Operation, key_of}
+use Rattle.queue_tx.specs.Requests.{SameRequest}
+use Rattle.queue_tx.specs.RequestDigests.{request_digest}
 use Rattle.queue_tx.specs.Room.{most_own, is_kept_name, own_count, lacks_room}
 use Rattle.queue_tx.specs.Queues.{KeyedAds, IsQueue, ad_at, ad_after, after_op, queue_after}
 
@@ -66,3 +68,8 @@ abbrev pub RoomForThePool : Type 0
 RoomForThePool = (key : Key) (ad : Attributes) (name : List ℕ)
     → IsAd ad → own_count key ad ≤ most_own key → is_kept_name key name ≡ true
     → lacks_room key name ad ≡ false
+
+-- ads that make the same request have one digest
+abbrev pub SameRequestsHaveOneDigest : Type 0
+SameRequestsHaveOneDigest = (a b : Attributes)
+    → AreDistinct a → AreDistinct b → SameRequest a b → request_digest a ≡ request_digest b

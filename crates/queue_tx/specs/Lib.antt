@@ -10,3 +10,6 @@ pub mod Laws
 pub mod Jobs
 pub mod Kept
 pub mod Requests
+pub mod RequestDigests
+pub mod Asked
+pub mod KindLists

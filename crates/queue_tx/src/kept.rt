@@ -1,10 +1,12 @@
 ghost use Rattle.std.specs.Prelude.{◌≡◌, true, false, [], IfOk, Some};
+ghost use Rattle.queue_tx.specs.Asked.{IsReady};
 ghost use Rattle.queue_tx.specs.Jobs.{kind_under};
 ghost use Rattle.queue_tx.specs.declared.kind.JobKind.{JobKind};
 ghost use Rattle.queue_tx.specs.Kept.{is_kind, of_kind, SetsKey};
 
+use crate::asked::{Asked, new_place, place_of};
 use crate::key::Key;
-use crate::kind::{JobKind, kind_of};
+use crate::kind::{JobKind, kind_under};
 use ad_tree::Ad;
 use ad_value::{Copied, Memory};
 use ordered_map::{NewEntry, OrderedMap};
@@ -116,6 +118,7 @@ impl Copied for Kinds {
 pub(crate) struct ReadyAd {
     ad: NewEntry<Key, Ad>,
     job: NewEntry<Key, Here>,
+    asked: Option<NewEntry<Asked, Here>>,
 }
 
 impl Model for ReadyAd {
@@ -123,6 +126,7 @@ impl Model for ReadyAd {
     ghost use Rattle.std.specs.Coded.{coded×};
     ghost use Rattle.ad_tree.specs.Ad.{Attributes};
     ghost use Rattle.ad_tree.specs.TreeCode.{attributes_code};
+    ghost use Rattle.queue_tx.specs.Asked.{IsReady};
     ghost use Rattle.queue_tx.specs.OperationCode.{key_code};
     ghost use Rattle.queue_tx.specs.declared.key.Key.{Key};
 
@@ -132,33 +136,39 @@ impl Model for ReadyAd {
 
     ghost view = { λ r. r.ad };
 
-    ghost invariant = { λ r. r.job.0 ≡ r.ad.0 };
+    ghost invariant = { λ r. IsReady r.ad r.job.0 r.asked };
 }
 
 impl ReadyAd {
     pub(crate) fn new(alloc: Global, key: Key, ad: Ad) -> Result<ReadyAd, Memory>
         ensures { IfOk result (λ r. r ≡ (key, ad)) }
     {
+        let asked = new_place(alloc, place_of(&key, &ad))?;
         let job = NewEntry::new(alloc, key, Here)?;
         let ad = NewEntry::new(alloc, key, ad)?;
-        Ok(ReadyAd { ad, job })
+        Ok(ReadyAd { ad, job, asked })
     }
 
     // What the ad makes of the job under its key.
     pub(crate) fn kind(&self) -> Option<JobKind>
         ensures { result ≡ kind_under self.now.0 (Some self.now.1) }
     {
-        match self.ad.key() {
-            Key::Header => None,
-            Key::Proc(_) => kind_of(self.ad.value()),
-        }
+        kind_under(self.ad.key(), self.ad.value())
     }
 
-    pub(crate) fn into_entries(self) -> (NewEntry<Key, Ad>, NewEntry<Key, Here>)
-        ensures ad { result.0 ≡ self }
-        ensures job { result.1.0 ≡ self.0 }
+    pub(crate) fn into_entries(self) -> ReadyEntries
+        ensures ad { result.ad ≡ self }
+        ensures ready { IsReady result.ad result.job.0 result.asked }
     {
-        let ReadyAd { ad, job } = self;
-        (ad, job)
+        let ReadyAd { ad, job, asked } = self;
+        ReadyEntries { ad, job, asked }
     }
+}
+
+/// The places of an ad, apart.
+#[derive(Drop)]
+pub(crate) struct ReadyEntries {
+    pub(crate) ad: NewEntry<Key, Ad>,
+    pub(crate) job: NewEntry<Key, Here>,
+    pub(crate) asked: Option<NewEntry<Asked, Here>>,
 }

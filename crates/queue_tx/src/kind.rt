@@ -1,7 +1,9 @@
-ghost use Rattle.std.specs.Prelude.{◌≡◌};
+ghost use Rattle.std.specs.Prelude.{◌≡◌, Some};
 ghost use Rattle.ad_tree.specs.Tree.{tree};
+ghost use Rattle.queue_tx.specs.Jobs.{kind_under};
 ghost use Rattle.queue_tx.specs.Kinds.{kind_of, kind_numbered, status_kind};
 
+use crate::key::Key;
 use ad_names::job::JOB_STATUS;
 use ad_names::pool::RUN_CLAIM;
 use ad_tree::{Ad, Expr};
@@ -28,6 +30,16 @@ pub fn kind_of(ad: &Ad) -> Option<JobKind>
         return Some(JobKind::Under);
     }
     status_kind(ad.get(JOB_STATUS)?)
+}
+
+// What the ad under a key makes of its job. The header is no job.
+pub(crate) fn kind_under(key: &Key, ad: &Ad) -> Option<JobKind>
+    ensures { result ≡ kind_under key.now (Some ad.now) }
+{
+    match key {
+        Key::Header => None,
+        Key::Proc(_) => kind_of(ad),
+    }
 }
 
 // What a JobStatus says of a job that is under no claim.

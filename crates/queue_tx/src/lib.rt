@@ -2,6 +2,7 @@
 //! "The job queue log": `job_queue.log`).
 #![tactic(auto)]
 
+mod asked;
 mod error;
 mod kept;
 mod key;

@@ -1,6 +1,7 @@
 ghost use Rattle.std.specs.Prelude.{◌≡◌, ◌≢◌, ◌↔◌, [], IsSomeAnd, IsTrue, Ok, Err, IfOk, IfErr, OnOk, OnErr};
 ghost use Rattle.std.specs.Option.{option_copied};
 ghost use Rattle.ordered_map.specs.Trees.{is_past};
+ghost use Rattle.queue_tx.specs.Asked.{DoIdleNamesDiffer, IsAskedBy};
 ghost use Rattle.queue_tx.specs.Keys.{key_cmp, is_above};
 ghost use Rattle.queue_tx.specs.declared.key.Key.{Key};
 ghost use Rattle.queue_tx.specs.declared.error.ApplyError.TheVariants as error;
@@ -9,12 +10,13 @@ ghost use Rattle.queue_tx.specs.Jobs.{FirstKey, IsJobOf};
 ghost use Rattle.queue_tx.specs.Prepared.{change_of};
 ghost use Rattle.queue_tx.specs.Requests.{IsIdleAsking, SameRequest};
 
+use crate::asked::{AskedSet, asked_under, first_asked, replace};
 use crate::error::ApplyError;
-use crate::kept::Kinds;
+use crate::kept::{Kinds, ReadyEntries};
 use crate::key::Key;
 use crate::kind::JobKind;
 use crate::prepared::{Change, Prepared, changes_of};
-use crate::request::makes_same_request;
+use crate::request::{makes_same_request, request_digest};
 use crate::tx::Tx;
 use ad_tree::Ad;
 use ad_value::{Copied, Memory};
@@ -28,6 +30,8 @@ use std::ops::Bound;
 pub struct Queue {
     ads: OrderedMap<Key, Ad>,
     kinds: Kinds,
+    // The idle jobs by what they ask for.
+    asked: AskedSet,
 }
 
 impl Model for Queue {
@@ -40,8 +44,11 @@ impl Model for Queue {
     ghost view = { λ q. q.ads };
 
     ghost use Rattle.queue_tx.specs.Kept.{AreKinds};
+    ghost use Rattle.queue_tx.specs.Asked.{ArePlaces, DoIdleNamesDiffer};
 
-    ghost invariant = { λ q. AreKinds q.kinds q.ads };
+    ghost invariant = { λ q. AreKinds q.kinds q.ads
+        × ArePlaces q.asked q.ads
+        × DoIdleNamesDiffer q.ads };
 }
 
 impl Queue {
@@ -52,6 +59,7 @@ impl Queue {
         Queue {
             ads: OrderedMap::new(),
             kinds: Kinds::new(),
+            asked: OrderedMap::new(),
         }
     }
 
@@ -82,16 +90,26 @@ impl Queue {
     }
 
     /// The first idle job past a bound that makes the same request as an ad, by the order of the
-    /// keys, without memory. Computes in O(log jobs), and O(attributes) look-ups, for each idle job
-    /// up to it.
+    /// keys, without memory. Computes in O(size of the ad), and in O(log jobs) and O(attributes)
+    /// look-ups where no other request has the same digest; else the same again for each idle job
+    /// up to it whose request has.
     pub fn first_asking<'a>(&'a self, ad: &Ad, start: Bound<&Key>) -> Option<&'a Key>
         ensures { FirstKey (IsIdleAsking ad.now self.now) start.entry (option_copied result) }
     {
-        let mut key = self.first_of_kind(JobKind::Idle, start)?;
+        let digest = request_digest(ad);
+        let mut key = self.first_listed(digest, start)?;
         'idle: while !self.asks_same(key, ad) {
-            key = self.first_of_kind(JobKind::Idle, Bound::Excluded(key))?;
+            key = self.first_listed(digest, Bound::Excluded(key))?;
         }
         Some(key)
+    }
+
+    // The first idle job past a bound whose request has that digest.
+    fn first_listed(&self, digest: u64, start: Bound<&Key>) -> Option<&Key>
+        ensures first { FirstKey (IsAskedBy digest self.now) start.entry (option_copied result) }
+        ensures names { DoIdleNamesDiffer self.now }
+    {
+        first_asked(&self.asked, digest, start)
     }
 
     // Whether what stands under a key makes the same request as an ad.
@@ -119,7 +137,7 @@ impl Queue {
     }
 
     /// Does what was prepared, without memory, which can't fail. Computes in O(changed ads times
-    /// log ads).
+    /// log ads), and in O(size) for each idle job's ad that is replaced.
     pub fn commit(&mut self, prepared: Prepared)
         ensures { self.new ≡ with_changes self.old prepared }
     {
@@ -135,13 +153,17 @@ impl Queue {
         match change {
             Change::Put(ready) => {
                 let kind = ready.kind();
-                let (ad, job) = ready.into_entries();
+                let ReadyEntries { ad, job, asked } = ready.into_entries();
+                let old = asked_under(ad.key(), self.ads.get(ad.key()));
                 self.ads.put(ad);
                 self.kinds.put(job, kind);
+                replace(&mut self.asked, old, asked);
             }
             Change::Remove(key) => {
+                let old = asked_under(&key, self.ads.get(&key));
                 let _ = self.ads.remove(&key);
                 self.kinds.remove(&key);
+                replace(&mut self.asked, old, None);
             }
         }
     }
@@ -174,6 +196,7 @@ impl Copied for Queue {
         Ok(Queue {
             ads: self.ads.copy(alloc)?,
             kinds: self.kinds.copy(alloc)?,
+            asked: self.asked.copy(alloc)?,
         })
     }
 }

@@ -1,8 +1,11 @@
 ghost use Rattle.std.specs.Prelude.{◌≡◌, ◌↔◌, Some, IsTrue, slice_get};
+ghost use Rattle.std.specs.Option.{option_map_or};
 ghost use Rattle.ad_tree.specs.Tree.{tree};
-ghost use Rattle.ad_tree.specs.Ad.{lookup};
+ghost use Rattle.ad_tree.specs.Ad.{lookup, AreDistinct};
+ghost use Rattle.queue_tx.specs.RequestDigests.{asked_digest, request_digest};
 ghost use Rattle.queue_tx.specs.Requests.{is_asked, AgreesAt, AsksWithin, SameRequest};
 
+use ad_digest::attribute_digest;
 use ad_names::is_run_name;
 use ad_names::job::{
     ARGS, ARGUMENTS, CLUSTER_ID, CMD, ERR, IN, IWD, JOB_PRIO, JOB_STATUS, OUT, PROC_ID, Q_DATE,
@@ -71,4 +74,27 @@ fn is_asked(name: &str) -> bool
         || same_name(name, JOB_STATUS)
         || same_name(name, HOLD_REASON)
         || is_run_name(name))
+}
+
+// A number that ads which make the same request have in common.
+#[tactic(auto, using(crate::proofs::RequestDigests::steps))]
+pub(crate) fn request_digest(ad: &Ad) -> u64
+    ensures digest { result ≡ request_digest ad.now }
+    ensures distinct { AreDistinct ad.now }
+{
+    let mut digest = 0u64;
+    for place in 0..ad.len() {
+        digest = digest.wrapping_add(asked_digest(ad, place));
+    }
+    digest
+}
+
+// What the attribute at a place adds to it.
+fn asked_digest(ad: &Ad, place: usize) -> u64
+    ensures { result ≡ option_map_or asked_digest (slice_get ad.now place) 0 }
+{
+    match ad.attribute(place) {
+        Some((name, expr)) if is_asked(name) => attribute_digest(name, expr),
+        _ => 0,
+    }
 }
