@@ -13,14 +13,17 @@ use Rattle.ad_parse.specs.Canon.{canon}
 use Rattle.ad_parse.specs.ExprText.{IsExprText, expression_at}
 use Rattle.ad_parse.specs.ValueText.{IsShortInteger, HasReadableLiteral, nesting}
 use Rattle.ad_parse.specs.Reader.{rests_at, level_at, operand_at, cond_at}
-use Rattle.ad_parse.proofs.Literals.{value_canon, literal_says}
+use Rattle.ad_parse.proofs.Literals.{value_canon, literal_says, says_within}
 use Rattle.ad_parse.proofs.Texts.{IsReading, is_reading}
 use Rattle.ad_rows.specs.Requests.{enough}
 use Rattle.job_ads.specs.Submitted.{IsReadable}
 
--- the expression of a value
+-- the expression of a value, exactly
 pub readable_value : (c : Content) → HasReadableLiteral c → IsReadable (value_tree c)
 readable_value c h = subst (λ t. IsExprText t (value_tree c)) (sym (value_canon c)) (literal_says c h)
+
+pub value_within : (c : Content) → IsReadable (value_tree c) → HasReadableLiteral c
+value_within c is = says_within c (subst (λ t. IsExprText t (value_tree c)) (value_canon c) is)
 
 integer_is_short : (n : ℤ) → IsShortInteger n → length (integer_text n) ≤ 8192
 integer_is_short (pos n) less =

@@ -1,6 +1,7 @@
 use Rattle.ad_value.specs.Content.{text}
 use Rattle.ad_parse.proofs.Reread.{again}
-use Rattle.job_ads.proofs.Readable.{readable_value, readable_integer, readable_request}
+use Rattle.job_ads.proofs.Readable.{readable_value, value_within, readable_integer, readable_request}
+use Rattle.job_ads.proofs.Names.{name_readable}
 use Rattle.job_ads.proofs.laws.made_expressions_are_readable.Goals as goal
 
 pub returns-clause-read : goal.returns-clause-read
@@ -10,7 +11,10 @@ pub returns-clause-integer : goal.returns-clause-integer
 returns-clause-integer c = readable_integer
 
 pub returns-clause-string : goal.returns-clause-string
-returns-clause-string c = λ s h. readable_value (text s) h
+returns-clause-string c = λ s. (value_within (text s), readable_value (text s))
+
+pub returns-clause-name : goal.returns-clause-name
+returns-clause-name c = name_readable
 
 pub returns-clause-request : goal.returns-clause-request
 returns-clause-request c = readable_request
