@@ -1,4 +1,4 @@
--- What a schedd reads of a job's ad (HTCondor manual, Job ClassAd Attributes): literals alone count.
+-- What a schedd reads of a job's ad (HTCondor manual, Job ClassAd Attributes): only literals count.
 use Rattle.std.specs.Prelude.{ℕ, ℤ, pos, negsuc, ◌==◌, int_lt, unsigned_abs, List, Option, Some, None, if◌then◌else◌}
 use Rattle.std.specs.Str.{bytes_eq}
 use Rattle.ad_value.specs.Content.{integer, text}

@@ -1,0 +1,7 @@
+pub mod KeptClaims
+pub mod KeptRuns
+pub mod JobPlaces
+pub mod OrderTable
+pub mod EndTable
+pub mod MailTable
+pub mod TickTable
