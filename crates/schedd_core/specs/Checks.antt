@@ -1,0 +1,73 @@
+-- The periodic expressions of a job (HTCondor manual, condor_submit, periodic_hold,
+-- periodic_remove, periodic_release).
+use Rattle.std.specs.Prelude.{ℕ, ◌+◌, Bool, true, false, ◌&&◌, ◌||◌, List, Option, Some, None, is_some, if◌then◌else◌}
+use Rattle.std.specs.BTreeMap.{insert_entry}
+use Rattle.std.specs.Map.{lookup}
+use Rattle.ad_names.specs.declared.job.TheConstants.{PERIODIC_HOLD, PERIODIC_REMOVE, PERIODIC_RELEASE}
+use Rattle.ad_tree.specs.Ad.{Attributes}
+use Rattle.ad_tree.specs.Ad as ad
+use Rattle.claim_id.specs.declared.numbers.JobId.{JobId}
+use Rattle.queue_tx.specs.declared.key.Key.TheVariants.{Proc}
+use Rattle.queue_tx.specs.Keys.{key_cmp, same_key}
+use Rattle.queue_tx.specs.Kinds.{kind_of}
+use Rattle.queue_tx.specs.Queues.{KeyedAds, ad_at}
+use Rattle.schedd_plan.specs.declared.plan.JobPlan.{JobPlan}
+use Rattle.schedd_plan.specs.declared.reason.Reason.TheVariants.{ByPolicy}
+use Rattle.schedd_table.specs.declared.places.JobPlace.{JobPlace}
+use Rattle.schedd_table.specs.EndTable.{is_asked_by}
+use Rattle.schedd_table.specs.JobPlaces.{job_place}
+use Rattle.schedd_table.specs.OrderTable.{remove_plan, hold_plan, resume_plan, can_be_held, is_waiting}
+use Rattle.schedd_table.specs.TickTable.{is_after}
+use Rattle.schedd_core.specs.Schedds.{ScheddValue, After, becomes, waits_for}
+
+-- ---- when a look is due
+abbrev pub has_name : List ℕ → Attributes → Bool
+has_name name attributes = is_some (ad.lookup name attributes)
+
+-- a job with a periodic expression
+abbrev pub has_periodic : Attributes → Bool
+has_periodic attributes = is_some (kind_of attributes)
+    && (has_name PERIODIC_HOLD.now attributes
+    || has_name PERIODIC_REMOVE.now attributes
+    || has_name PERIODIC_RELEASE.now attributes)
+
+abbrev pub is_unchecked_since : Option ℕ → ℕ → ℕ → Bool
+is_unchecked_since None seconds reading = true
+is_unchecked_since (Some last) seconds reading = is_after last seconds reading
+
+-- none since the pool opened or the schedd came back, or none for a while
+abbrev pub is_unchecked : ScheddValue → JobId → ℕ → Bool
+is_unchecked v job reading = is_unchecked_since (lookup (same_key (Proc job)) v.checked)
+    v.settings.periodic_interval reading
+
+abbrev pub is_check_due_by : Option Attributes → ScheddValue → JobId → ℕ → Bool
+is_check_due_by None v job reading = false
+is_check_due_by (Some attributes) v job reading =
+    has_periodic attributes && is_unchecked v job reading
+
+abbrev pub is_check_due : ScheddValue → KeyedAds → JobId → ℕ → Bool
+is_check_due v q job reading = is_check_due_by (ad_at (Proc job) q) v job reading
+
+-- ---- what it does
+-- the first that holds: PeriodicHold, PeriodicRemove, PeriodicRelease
+abbrev pub policy_plan : JobPlace → JobId → Attributes → ℕ → Option JobPlan
+policy_plan place job attributes reading =
+    if can_be_held place && is_asked_by attributes reading PERIODIC_HOLD.now
+    then hold_plan place job ByPolicy
+    else (if is_asked_by attributes reading PERIODIC_REMOVE.now
+    then remove_plan place job
+    else (if is_waiting place && is_asked_by attributes reading PERIODIC_RELEASE.now
+    then resume_plan place job
+    else None))
+
+abbrev pub with_look : JobId → ℕ → ScheddValue → ScheddValue
+with_look job reading v =
+    record v { checked = insert_entry key_cmp v.checked (Proc job) reading }
+
+abbrev pub after_check_by : Option Attributes → ScheddValue → KeyedAds → JobId → ℕ → After
+after_check_by None v q job reading = becomes v
+after_check_by (Some attributes) v q job reading = waits_for
+    (policy_plan (job_place q v.left job) job attributes reading) (with_look job reading v)
+
+unfoldable pub after_check : ScheddValue → KeyedAds → JobId → ℕ → After
+after_check v q job reading = after_check_by (ad_at (Proc job) q) v q job reading

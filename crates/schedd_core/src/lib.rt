@@ -1,0 +1,12 @@
+//! The schedd as a state machine over the queue as logged: its claims, the runs under them, and the
+//! jobs that an earlier boot of the pool left (HTCondor manual, "Job Scheduling" and "Policy
+//! Configuration for Submit Hosts").
+#![tactic(auto)]
+
+mod answer;
+mod reopened;
+mod schedd;
+mod search;
+
+pub use answer::ScheddStep;
+pub use schedd::Schedd;

@@ -1,0 +1,218 @@
+// What the schedd finds in the queue when it comes back.
+
+ghost use Rattle.std.specs.Prelude.{◌≡◌, ◌+◌, ◌++◌, ℕ, List, Option, IfOk};
+ghost use Rattle.ad_tree.specs.Tree.{tree};
+ghost use Rattle.claim_id.specs.declared.numbers.ClaimId.{ClaimId};
+ghost use Rattle.queue_tx.specs.Queues.{ad_at};
+ghost use Rattle.queue_tx.specs.declared.key.Key.TheVariants.{Proc};
+ghost use Rattle.schedd_core.specs.Reopening.{IsReader, claim_in, claim_in_tree, found_run, run_found, found_runs, found_claims, claim_found, still_left, is_under_at, next_after, first_run, run_from, one_run, one_claim, is_under_kind};
+
+use ad_names::pool::RUN_CLAIM;
+use ad_tree::{Ad, Expr};
+use ad_value::{Copied, Memory, Value};
+use claim_id::{ClaimId, JobId};
+use queue_tx::{JobKind, Key, NEXT_RUN_NUM, Queue, kind_of};
+use schedd_plan::{JobPlan, natural_at, run_number};
+use schedd_table::{KeptClaim, KeptRun, Stage, ad_of, is_left};
+use std::alloc::Global;
+
+/// The last number that a run may have at the opening of a pool.
+pub const LAST_RUN_NUMBER: u64 = 4_611_686_018_427_387_904;
+
+// The claim whose text an expression is.
+fn claim_in_tree(expr: &Expr) -> Option<ClaimId>
+    ensures { (read : List ℕ → Option ClaimId) → IsReader read
+        → result ≡ claim_in_tree read (tree expr.now) }
+{
+    match expr {
+        Expr::Lit(Value::Str(text)) => claim_of_text(text.as_str()),
+        _ => None,
+    }
+}
+
+fn claim_of_text(text: &str) -> Option<ClaimId>
+    ensures { (read : List ℕ → Option ClaimId) → IsReader read → result ≡ read text.now }
+{
+    ClaimId::read(text).ok()
+}
+
+// The claim under which an ad says that its job is.
+fn claim_in(ad: &Ad) -> Option<ClaimId>
+    ensures { (read : List ℕ → Option ClaimId) → IsReader read
+        → result ≡ claim_in read ad.now }
+{
+    claim_in_tree(ad.get(RUN_CLAIM)?)
+}
+
+fn run_found(ad: &Ad, job: JobId, reading: u64) -> Option<KeptRun>
+    ensures { (read : List ℕ → Option ClaimId) → IsReader read
+        → result ≡ run_found read job reading ad.now }
+{
+    let claim = claim_in(ad)?;
+    let number = run_number(ad)?;
+    Some(KeptRun {
+        job,
+        claim,
+        number,
+        alive: reading,
+        found: true,
+    })
+}
+
+// The run of a job that wasn't left.
+fn found_run(queue: &Queue, left: &[JobId], job: JobId, reading: u64) -> Option<KeptRun>
+    ensures { (read : List ℕ → Option ClaimId) → IsReader read
+        → result ≡ found_run read queue.now left.now reading job }
+{
+    if is_left(left, job) {
+        return None;
+    }
+    run_found(ad_of(queue, job)?, job, reading)
+}
+
+fn push_some(runs: &mut Vec<KeptRun>, run: Option<KeptRun>) -> Result<(), Memory>
+    ensures { IfOk result (λ _. runs.new.items ≡ runs.old.items ++ one_run run) }
+{
+    if let Some(run) = run {
+        runs.push(run)?;
+    }
+    Ok(())
+}
+
+/// The runs under which jobs of the queue are, in order of the jobs, but for jobs that were left.
+pub(crate) fn found_runs(
+    alloc: Global,
+    queue: &Queue,
+    jobs: &[JobId],
+    left: &[JobId],
+    reading: u64,
+) -> Result<Vec<KeptRun>, Memory>
+    ensures { (read : List ℕ → Option ClaimId) → IsReader read → IfOk result (λ runs.
+        runs.items ≡ found_runs read queue.now left.now reading jobs.now) }
+{
+    let mut runs = Vec::new(alloc);
+    for job in jobs {
+        push_some(&mut runs, found_run(queue, left, *job, reading))?;
+    }
+    Ok(runs)
+}
+
+// The claim of a run that was found: ready, with its job as its first one.
+fn claim_found(alloc: Global, ad: &Ad, run: &KeptRun) -> Result<KeptClaim, Memory>
+    ensures { IfOk result (λ claim. claim ≡ claim_found run.now ad.now) }
+{
+    Ok(KeptClaim {
+        claim: run.claim,
+        job: run.job,
+        stage: Stage::Ready,
+        ad: ad.copy(alloc)?,
+    })
+}
+
+fn push_claim(
+    alloc: Global,
+    claims: &mut Vec<KeptClaim>,
+    queue: &Queue,
+    run: &KeptRun,
+) -> Result<(), Memory>
+    ensures { IfOk result (λ _. claims.new.items
+        ≡ claims.old.items ++ one_claim (ad_at (Proc run.now.job) queue.now) run.now) }
+{
+    if let Some(ad) = ad_of(queue, run.job) {
+        let claim = claim_found(alloc, ad, run)?;
+        claims.push(claim)?;
+    }
+    Ok(())
+}
+
+/// The claims of runs that were found, in the same order.
+pub(crate) fn found_claims(
+    alloc: Global,
+    queue: &Queue,
+    runs: &[KeptRun],
+) -> Result<Vec<KeptClaim>, Memory>
+    ensures { IfOk result (λ claims. claims.items ≡ found_claims queue.now runs.now) }
+{
+    let mut claims = Vec::new(alloc);
+    for run in runs {
+        push_claim(alloc, &mut claims, queue, run)?;
+    }
+    Ok(claims)
+}
+
+/// Whether a job is under a claim.
+pub(crate) fn is_under_at(queue: &Queue, job: JobId) -> bool
+    ensures { result ≡ is_under_at queue.now job }
+{
+    match ad_of(queue, job) {
+        Some(ad) => is_under_kind(kind_of(ad)),
+        None => false,
+    }
+}
+
+fn is_under_kind(kind: Option<JobKind>) -> bool
+    ensures { result ≡ is_under_kind kind }
+{
+    match kind {
+        Some(JobKind::Under) => true,
+        _ => false,
+    }
+}
+
+/// The jobs that were left and weren't let go.
+pub(crate) fn still_left(alloc: Global, queue: &Queue, left: &[JobId]) -> Result<Vec<JobId>, Memory>
+    ensures { IfOk result (λ jobs. jobs.items ≡ still_left queue.now left.now) }
+{
+    let mut jobs = Vec::new(alloc);
+    for job in left {
+        if is_under_at(queue, *job) {
+            jobs.push(*job)?;
+        }
+    }
+    Ok(jobs)
+}
+
+/// The number of the run that is granted next, where it was `next` and a plan waited. Memory too
+/// where that is 2 to the 64.
+pub(crate) fn next_after(queue: &Queue, waiting: Option<JobPlan>, next: u64) -> Result<u64, Memory>
+    ensures { IfOk result (λ n. n ≡ next_after queue.now waiting next) }
+{
+    match waiting {
+        Some(JobPlan::Grant { job, number, .. }) => {
+            if is_under_at(queue, job) {
+                number_after(number)
+            } else {
+                Ok(next)
+            }
+        }
+        _ => Ok(next),
+    }
+}
+
+pub(crate) fn number_after(number: u64) -> Result<u64, Memory>
+    ensures { IfOk result (λ n. n ≡ number + 1) }
+{
+    match number.checked_add(1) {
+        Some(next) => Ok(next),
+        None => Err(Memory),
+    }
+}
+
+/// The number of the run that is granted first, by the header's ad.
+pub(crate) fn first_run(queue: &Queue) -> u64
+    ensures { result ≡ first_run queue.now }
+{
+    match queue.get(&Key::Header) {
+        Some(ad) => run_from(natural_at(ad, NEXT_RUN_NUM)),
+        None => 1,
+    }
+}
+
+fn run_from(number: Option<u64>) -> u64
+    ensures { result ≡ run_from number }
+{
+    match number {
+        Some(number) if 0 < number && number <= LAST_RUN_NUMBER => number,
+        _ => 1,
+    }
+}

@@ -1,0 +1,937 @@
+ghost use Rattle.std.specs.Prelude.{◌≡◌, Some, not, IfOk, OnErr, slice_get};
+ghost use Rattle.pool_view.specs.Numbers.{same_job};
+ghost use Rattle.queue_tx.specs.Queues.{ad_at};
+ghost use Rattle.queue_tx.specs.declared.key.Key.TheVariants.{Proc};
+ghost use Rattle.schedd_table.specs.JobPlaces.{job_place};
+ghost use Rattle.schedd_core.specs.Rows.{stage_known, run_known, mail_row, seen_row, gone_row, ended_row, noted, asked_in, after_row, after_mail};
+ghost use Rattle.schedd_core.specs.Ticks.{comes_first, line_of_place, line_of_claims, line_of_claim, tick_line, is_act, is_due, IsSought, IsSoughtBy, IsTicked, left_claims, after_past, later, after_lengthen, after_grant, after_give_up, after_line};
+ghost use Rattle.schedd_core.specs.Checks.{has_periodic, is_unchecked, is_check_due, policy_plan, after_check};
+ghost use Rattle.schedd_core.specs.Logging.{run_of_job, stops, is_marked, is_stopped, alives, activates, mails_of_plan, taken_off, after_plan, after_logged, IsReopened};
+ghost use Rattle.schedd_core.specs.Schedds.{nothing_done, plans, IsOpened, engages_job};
+
+use crate::answer::ScheddStep;
+use crate::reopened::{first_run, found_claims, found_runs, next_after, number_after, still_left};
+use crate::search::{first_free, under_jobs};
+use ad_eval::holds;
+use ad_names::job::{PERIODIC_HOLD, PERIODIC_RELEASE, PERIODIC_REMOVE};
+use ad_tree::Ad;
+use ad_value::{Copied, Memory};
+use claim_id::{ClaimId, ClaimNo, JobId, RunNo};
+use ordered_map::{NewEntry, OrderedMap};
+use pool_mail::{How, Mail, MailList, Settings, request_ad};
+use queue_tx::{Key, Queue, kind_of};
+use schedd_plan::{JobPlan, JobStatus, Reason, lease_until, status_of};
+use schedd_table::{
+    ClaimLine, Fate, JobPlace, KeptClaim, KeptRun, MailRow, RunLine, Stage, TickLine, ad_of,
+    add_run, can_be_held, claim_line, denied_row, due_claim, due_run, ended_plan, engages,
+    fate_of_gone, granted_row, hold_plan, is_after, is_before, is_waiting, job_place, lease_end,
+    let_go, matched_row, order_row, place_of_claim, place_of_job, place_of_run, remove_claim,
+    remove_plan, remove_run, resume_plan, run_line, set_alive, set_job, set_stage, settle_claim,
+};
+use std::alloc::Global;
+use std::marker::Model;
+
+/// The schedd: its claims, the runs under them, the jobs that an earlier boot of the pool left, and
+/// what waits to be logged. Contracts see it as a `ScheddValue`.
+pub struct Schedd {
+    settings: Settings,
+    next_run: u64,
+    left: Vec<JobId>,
+    claims: Vec<KeptClaim>,
+    runs: Vec<KeptRun>,
+    checked: OrderedMap<Key, u64>,
+    waiting: Option<JobPlan>,
+}
+
+impl Drop for Schedd {
+    fn drop(self) {
+        let Schedd {
+            settings: _,
+            next_run: _,
+            left: _left,
+            claims: _claims,
+            runs: _runs,
+            checked: _checked,
+            waiting: _,
+        } = self;
+    }
+}
+
+impl Model for Schedd {
+    ghost use Rattle.std.specs.Coded.{codes};
+    ghost use Rattle.queue_tx.specs.OperationCode.{key_code};
+    ghost use Rattle.pool_mail.specs.contracts.settings.Settings as of_settings;
+    ghost use Rattle.schedd_plan.specs.contracts.plan.JobPlan as of_plan;
+    ghost use Rattle.claim_id.specs.contracts.numbers.JobId as of_job;
+    ghost use Rattle.schedd_table.specs.contracts.claims.KeptClaim as of_claim;
+    ghost use Rattle.schedd_table.specs.contracts.runs.KeptRun as of_run;
+    ghost use Rattle.schedd_core.specs.Schedds.{ScheddValue};
+
+    ghost Value = { ScheddValue };
+
+    ghost coded = { Prim.hlevel (
+      codes,
+      key_code,
+      of_settings.the_row.coded,
+      of_plan.the_row.coded,
+      of_job.the_row.coded,
+      of_claim.the_row.coded,
+      of_run.the_row.coded,
+    ) };
+
+    ghost view = { λ s. record {
+      settings = s.settings;
+      next_run = s.next_run;
+      left = s.left.items;
+      claims = s.claims.items;
+      runs = s.runs.items;
+      checked = s.checked;
+      waiting = s.waiting;
+    } };
+}
+
+impl Schedd {
+    /// The schedd of a pool that opens with a queue. Computes in O(jobs under a claim times log
+    /// jobs).
+    pub fn new(alloc: Global, queue: &Queue, settings: Settings) -> Result<Schedd, Memory>
+        ensures { IfOk result (λ s. IsOpened queue.now settings s) }
+    {
+        Ok(Schedd {
+            settings,
+            next_run: first_run(queue),
+            left: under_jobs(alloc, queue)?,
+            claims: Vec::new(alloc),
+            runs: Vec::new(alloc),
+            checked: OrderedMap::new(),
+            waiting: None,
+        })
+    }
+
+    /// The claims, in their order. Computes in O(1).
+    pub fn claims(&self) -> &[KeptClaim]
+        ensures { result.now ≡ self.now.claims }
+    {
+        self.claims.as_slice()
+    }
+
+    /// The jobs under runs of this boot of the pool, in order of the jobs. Computes in O(1).
+    pub fn runs(&self) -> &[KeptRun]
+        ensures { result.now ≡ self.now.runs }
+    {
+        self.runs.as_slice()
+    }
+
+    /// The jobs that an earlier boot of the pool left, in order. Computes in O(1).
+    pub fn left(&self) -> &[JobId]
+        ensures { result.now ≡ self.now.left }
+    {
+        self.left.as_slice()
+    }
+
+    /// Whether a claim that is asked for or ready names the job. Computes in O(claims).
+    pub fn engages(&self, job: JobId) -> bool
+        ensures { result ≡ engages_job self.now job }
+    {
+        engages(&self.claims, job)
+    }
+
+    fn place(&self, queue: &Queue, job: JobId) -> JobPlace
+        ensures { result ≡ job_place queue.now self.now.left job }
+    {
+        job_place(queue, &self.left, job)
+    }
+
+    // ---- mails
+
+    // The place of a claim, and how far it has come.
+    fn known_claim(&self, claim: ClaimNo) -> Option<(usize, Stage)>
+        ensures { result ≡ stage_known self.now claim }
+    {
+        let place = place_of_claim(&self.claims, claim)?;
+        let kept = self.claims.get(place)?;
+        Some((place, kept.stage))
+    }
+
+    // What becomes of a mail.
+    #[tactic(auto, unfolding(crate::specs::Rows::mail_row))]
+    fn mail_row(
+        &self,
+        alloc: Global,
+        queue: &Queue,
+        mail: &Mail,
+        reading: u64,
+    ) -> Result<MailRow, Memory>
+        ensures { IfOk result (λ row. row ≡ mail_row self.now queue.now mail.now reading) }
+    {
+        match mail {
+            Mail::Matched(found) => Ok(matched_row(
+                self.place(queue, found.job),
+                engages(&self.claims, found.job),
+                place_of_claim(&self.claims, found.claim.no),
+                found,
+            )),
+            Mail::Granted { claim, .. } => Ok(granted_row(self.known_claim(claim.no), claim.no)),
+            Mail::Denied {
+                claim,
+                run,
+                why,
+                ..
+            } => Ok(denied_row(self.known_claim(*claim), run.is_some(), *why)),
+            Mail::Seen { run, .. } => Ok(self.seen_row(*run)),
+            Mail::Gone { run, kept } => Ok(self.gone_row(queue, *run, *kept)),
+            Mail::Ended { run, how } => self.ended_row(alloc, queue, *run, *how, reading),
+            Mail::Remove { job } => Ok(order_row(remove_plan(self.place(queue, *job), *job))),
+            Mail::Hold { job } => Ok(order_row(hold_plan(
+                self.place(queue, *job),
+                *job,
+                Reason::ByCommand,
+            ))),
+            Mail::Resume { job } => Ok(order_row(resume_plan(self.place(queue, *job), *job))),
+            _ => Ok(MailRow::Nothing),
+        }
+    }
+
+    fn seen_row(&self, run: RunNo) -> MailRow
+        ensures { result ≡ seen_row self.now run }
+    {
+        match place_of_run(&self.runs, run) {
+            Some(place) => MailRow::Note { place },
+            None => MailRow::Nothing,
+        }
+    }
+
+    // The place of a run, and its job.
+    fn known_run(&self, run: RunNo) -> Option<(usize, JobId)>
+        ensures { result ≡ run_known self.now run }
+    {
+        let place = place_of_run(&self.runs, run)?;
+        let kept = self.runs.get(place)?;
+        Some((place, kept.job))
+    }
+
+    fn gone_row(&self, queue: &Queue, run: RunNo, kept: bool) -> MailRow
+        ensures { result ≡ gone_row self.now queue.now run kept }
+    {
+        match self.known_run(run) {
+            Some((place, job)) => MailRow::Free {
+                place,
+                plan: let_go(queue, job),
+                claim: run.claim,
+                fate: fate_of_gone(kept),
+            },
+            None => MailRow::Nothing,
+        }
+    }
+
+    fn ended_row(
+        &self,
+        alloc: Global,
+        queue: &Queue,
+        run: RunNo,
+        how: How,
+        reading: u64,
+    ) -> Result<MailRow, Memory>
+        ensures { IfOk result (λ row. row ≡ ended_row self.now queue.now run how reading) }
+    {
+        let Some((place, job)) = self.known_run(run) else {
+            return Ok(MailRow::Nothing);
+        };
+        let Some(ad) = ad_of(queue, job) else {
+            return Ok(MailRow::Nothing);
+        };
+        let plan = ended_plan(alloc, job, ad, how, reading)?;
+        Ok(MailRow::Free {
+            place,
+            plan,
+            claim: run.claim,
+            fate: Fate::Ready,
+        })
+    }
+
+    /// A mail is received; the queue is the one as logged, and no transaction is unfinished. After
+    /// an error the schedd is as it was. Computes in O(claims + runs + jobs left + log jobs), and
+    /// an evaluation of OnExitHold and OnExitRemove for the end of a run.
+    pub fn receive(
+        &mut self,
+        alloc: Global,
+        queue: &Queue,
+        mail: &Mail,
+        reading: u64,
+    ) -> Result<ScheddStep, Memory>
+        ensures schedd { IfOk result (λ _. self.new
+            ≡ (after_mail self.old queue.now mail.now reading).schedd) }
+        ensures step { IfOk result (λ step. step
+            ≡ (after_mail self.old queue.now mail.now reading).step) }
+        ensures kept { OnErr result (self.new ≡ self.old) }
+    {
+        let row = self.mail_row(alloc, queue, mail, reading)?;
+        self.take_row(alloc, queue, row, reading)
+    }
+
+    #[tactic(auto, unfolding(crate::specs::Rows::after_row))]
+    fn take_row(
+        &mut self,
+        alloc: Global,
+        queue: &Queue,
+        row: MailRow,
+        reading: u64,
+    ) -> Result<ScheddStep, Memory>
+        ensures schedd { IfOk result (λ _. self.new
+            ≡ (after_row self.old queue.now row reading).schedd) }
+        ensures step { IfOk result (λ step. step
+            ≡ (after_row self.old queue.now row reading).step) }
+        ensures kept { OnErr result (self.new ≡ self.old) }
+    {
+        match row {
+            MailRow::Nothing => Ok(ScheddStep::nothing(alloc)),
+            MailRow::Ask {
+                claim,
+                job,
+                by_priority,
+            } => self.ask(alloc, queue, claim, job, by_priority, reading),
+            MailRow::Ready { place } => {
+                set_stage(&mut self.claims, place, Stage::Ready);
+                Ok(ScheddStep::nothing(alloc))
+            }
+            MailRow::Release { claim } => ScheddStep::mail(alloc, Mail::Release { claim }),
+            MailRow::Forget { place } => {
+                remove_claim(&mut self.claims, place);
+                Ok(ScheddStep::nothing(alloc))
+            }
+            MailRow::Leave { place } => {
+                set_stage(&mut self.claims, place, Stage::Leaving);
+                Ok(ScheddStep::nothing(alloc))
+            }
+            MailRow::Note { place } => {
+                self.note(place, reading);
+                Ok(ScheddStep::nothing(alloc))
+            }
+            MailRow::Free {
+                place,
+                plan,
+                claim,
+                fate,
+            } => {
+                remove_run(&mut self.runs, place);
+                settle_claim(&mut self.claims, claim, fate);
+                Ok(self.wait_for(alloc, plan))
+            }
+            MailRow::Order { plan } => Ok(self.wait_for(alloc, plan)),
+        }
+    }
+
+    // A plan is to be logged.
+    fn wait_for(&mut self, alloc: Global, plan: JobPlan) -> ScheddStep
+        ensures schedd { self.new ≡ record self.old { waiting = Some plan } }
+        ensures step { result ≡ plans plan }
+    {
+        self.waiting = Some(plan);
+        ScheddStep::plan(alloc, plan)
+    }
+
+    // A run of a place is alive.
+    fn note(&mut self, place: usize, reading: u64)
+        ensures { self.new ≡ noted place reading self.old }
+    {
+        if let Some(kept) = self.runs.get(place) {
+            let found = kept.found;
+            set_alive(&mut self.runs, place, reading, found);
+        }
+    }
+
+    // A claim is asked for.
+    fn ask(
+        &mut self,
+        alloc: Global,
+        queue: &Queue,
+        claim: ClaimId,
+        job: JobId,
+        by_priority: bool,
+        reading: u64,
+    ) -> Result<ScheddStep, Memory>
+        ensures schedd { IfOk result (λ _. self.new ≡ (asked_in
+            (ad_at (Proc job) queue.now) self.old claim job by_priority reading).schedd) }
+        ensures step { IfOk result (λ step. step ≡ (asked_in
+            (ad_at (Proc job) queue.now) self.old claim job by_priority reading).step) }
+        ensures kept { OnErr result (self.new ≡ self.old) }
+    {
+        let Some(ad) = ad_of(queue, job) else {
+            return Ok(ScheddStep::nothing(alloc));
+        };
+        let asked = Mail::Ask {
+            claim,
+            job,
+            ad: request_ad(alloc, ad)?,
+            by_priority,
+        };
+        let step = ScheddStep::mail(alloc, asked)?;
+        let kept = KeptClaim {
+            claim,
+            job,
+            stage: Stage::Asked { at: reading },
+            ad: ad.copy(alloc)?,
+        };
+        self.claims.push(kept)?;
+        Ok(step)
+    }
+
+    // ---- ticks
+
+    // The first line of the tick that is due.
+    #[tactic(auto, unfolding(crate::specs::Ticks::tick_line))]
+    fn tick_line(&self, queue: &Queue, reading: u64) -> TickLine
+        ensures { result ≡ tick_line self.now queue.now reading }
+    {
+        let run = due_run(&self.runs, queue, &self.settings, reading);
+        match (self.left.first(), run) {
+            (Some(job), Some(place)) => {
+                if self.comes_first(*job, place) {
+                    TickLine::Left { job: *job }
+                } else {
+                    self.line_of_run(queue, place, reading)
+                }
+            }
+            (Some(job), None) => TickLine::Left { job: *job },
+            (None, Some(place)) => self.line_of_run(queue, place, reading),
+            (None, None) => self.line_of_claims(queue, reading),
+        }
+    }
+
+    // Whether a job comes before that of the run of a place.
+    fn comes_first(&self, job: JobId, place: usize) -> bool
+        ensures { result ≡ comes_first job (slice_get self.now.runs place) }
+    {
+        match self.runs.get(place) {
+            Some(run) => is_before(job, run.job),
+            None => true,
+        }
+    }
+
+    fn line_of_run(&self, queue: &Queue, place: usize, reading: u64) -> TickLine
+        ensures { result ≡ line_of_place self.now queue.now place reading }
+    {
+        match self.runs.get(place) {
+            Some(run) => match run_line(run, queue, &self.settings, reading) {
+                RunLine::Past => TickLine::Past { place },
+                RunLine::Lengthen => TickLine::Lengthen { place },
+                RunLine::Nothing => TickLine::Nothing,
+            },
+            None => TickLine::Nothing,
+        }
+    }
+
+    fn line_of_claims(&self, queue: &Queue, reading: u64) -> TickLine
+        ensures { result ≡ line_of_claims self.now queue.now reading }
+    {
+        match due_claim(&self.claims, &self.runs, queue, &self.settings, reading) {
+            Some(place) => self.line_of_claim(queue, place, reading),
+            None => TickLine::Nothing,
+        }
+    }
+
+    fn line_of_claim(&self, queue: &Queue, place: usize, reading: u64) -> TickLine
+        ensures { result ≡ line_of_claim self.now queue.now place reading }
+    {
+        match self.claims.get(place) {
+            Some(claim) => match claim_line(claim, &self.runs, queue, &self.settings, reading) {
+                ClaimLine::Regrant => TickLine::Regrant {
+                    place,
+                    job: claim.job,
+                },
+                ClaimLine::Seek => TickLine::Seek { place },
+                ClaimLine::GiveUp => TickLine::GiveUp { place },
+                ClaimLine::Nothing => TickLine::Nothing,
+            },
+            None => TickLine::Nothing,
+        }
+    }
+
+    /// Whether a tick is due at a reading. Computes in O(runs times log jobs + claims times runs),
+    /// without memory.
+    pub fn due(&self, queue: &Queue, reading: u64) -> bool
+        ensures { result ≡ is_due self.now queue.now reading }
+    {
+        is_act(self.tick_line(queue, reading))
+    }
+
+    /// Time passes: the first thing that is due is done; nothing where nothing is. The queue is the
+    /// one as logged, and no transaction is unfinished. Memory too where a number is 2 to the 64 or
+    /// more. After an error the schedd is as it was. Computes as `due`, and as
+    /// `Queue::first_asking` where a claim looks for another job.
+    pub fn tick(&mut self, alloc: Global, queue: &Queue, reading: u64) -> Result<ScheddStep, Memory>
+        ensures ticked { IfOk result (λ step. IsTicked self.old queue.now reading self.new step) }
+        ensures kept { OnErr result (self.new ≡ self.old) }
+    {
+        let line = self.tick_line(queue, reading);
+        let found = self.sought(queue, line);
+        let step = self.take_line(alloc, queue, line, found, reading)?;
+        Ok(step)
+    }
+
+    // The job for a claim that looks for one.
+    fn sought(&self, queue: &Queue, line: TickLine) -> Option<Key>
+        ensures { IsSought self.now queue.now line result }
+    {
+        match line {
+            TickLine::Seek { place } => self.sought_by(queue, place),
+            _ => None,
+        }
+    }
+
+    fn sought_by(&self, queue: &Queue, place: usize) -> Option<Key>
+        ensures { IsSoughtBy self.now.claims (slice_get self.now.claims place) queue.now result }
+    {
+        match self.claims.get(place) {
+            Some(claim) => first_free(queue, &self.claims, &claim.ad),
+            None => None,
+        }
+    }
+
+    #[tactic(auto, unfolding(crate::specs::Ticks::after_line))]
+    fn take_line(
+        &mut self,
+        alloc: Global,
+        queue: &Queue,
+        line: TickLine,
+        found: Option<Key>,
+        reading: u64,
+    ) -> Result<ScheddStep, Memory>
+        ensures schedd { IfOk result (λ _. self.new
+            ≡ (after_line self.old queue.now line found reading).schedd) }
+        ensures step { IfOk result (λ step. step
+            ≡ (after_line self.old queue.now line found reading).step) }
+        ensures kept { OnErr result (self.new ≡ self.old) }
+    {
+        match line {
+            TickLine::Nothing => Ok(ScheddStep::nothing(alloc)),
+            TickLine::Left { job } => Ok(self.wait_for(alloc, let_go(queue, job))),
+            TickLine::Past { place } => Ok(self.free_past(alloc, queue, place)),
+            TickLine::Lengthen { place } => self.lengthen(alloc, queue, place, reading),
+            TickLine::Regrant { place, job } => self.grant(alloc, queue, place, job, reading),
+            TickLine::Seek { place } => match found {
+                Some(Key::Proc(job)) => self.grant(alloc, queue, place, job, reading),
+                Some(Key::Header) | None => self.give_up(alloc, place),
+            },
+            TickLine::GiveUp { place } => self.give_up(alloc, place),
+        }
+    }
+
+    // The job of the run of a place is let go, and the claim is leaving.
+    fn free_past(&mut self, alloc: Global, queue: &Queue, place: usize) -> ScheddStep
+        ensures schedd { self.new
+            ≡ (after_past self.old queue.now place (slice_get self.old.runs place)).schedd }
+        ensures step { result
+            ≡ (after_past self.old queue.now place (slice_get self.old.runs place)).step }
+    {
+        let Some(run) = self.runs.get(place) else {
+            return ScheddStep::nothing(alloc);
+        };
+        let KeptRun { job, claim, .. } = *run;
+        remove_run(&mut self.runs, place);
+        self.leave_claim(claim.no);
+        self.wait_for(alloc, let_go(queue, job))
+    }
+
+    fn leave_claim(&mut self, claim: ClaimNo)
+        ensures { self.new ≡ record self.old { claims = left_claims claim self.old.claims } }
+    {
+        if let Some(place) = place_of_claim(&self.claims, claim) {
+            set_stage(&mut self.claims, place, Stage::Leaving);
+        }
+    }
+
+    // The lease of the run of a place goes on.
+    fn lengthen(
+        &mut self,
+        alloc: Global,
+        queue: &Queue,
+        place: usize,
+        reading: u64,
+    ) -> Result<ScheddStep, Memory>
+        ensures schedd { IfOk result (λ _. self.new ≡ (after_lengthen
+            self.old queue.now place (slice_get self.old.runs place) reading).schedd) }
+        ensures step { IfOk result (λ step. step ≡ (after_lengthen
+            self.old queue.now place (slice_get self.old.runs place) reading).step) }
+        ensures kept { OnErr result (self.new ≡ self.old) }
+    {
+        let Some(run) = self.runs.get(place) else {
+            return Ok(ScheddStep::nothing(alloc));
+        };
+        let job = run.job;
+        let Some(ad) = ad_of(queue, job) else {
+            return Ok(ScheddStep::nothing(alloc));
+        };
+        let end = lease_end(alloc, ad, &self.settings, reading)?;
+        let until = later(end, lease_until(ad));
+        set_alive(&mut self.runs, place, reading, false);
+        Ok(self.wait_for(alloc, JobPlan::Lengthen { job, until }))
+    }
+
+    // The claim of a place gets a job.
+    fn grant(
+        &mut self,
+        alloc: Global,
+        queue: &Queue,
+        place: usize,
+        job: JobId,
+        reading: u64,
+    ) -> Result<ScheddStep, Memory>
+        ensures schedd { IfOk result (λ _. self.new ≡ (after_grant self.old queue.now place
+            (slice_get self.old.claims place) job reading).schedd) }
+        ensures step { IfOk result (λ step. step ≡ (after_grant self.old queue.now place
+            (slice_get self.old.claims place) job reading).step) }
+        ensures kept { OnErr result (self.new ≡ self.old) }
+    {
+        let Some(kept) = self.claims.get(place) else {
+            return Ok(ScheddStep::nothing(alloc));
+        };
+        let claim = kept.claim;
+        let Some(ad) = ad_of(queue, job) else {
+            return Ok(ScheddStep::nothing(alloc));
+        };
+        let until = lease_end(alloc, ad, &self.settings, reading)?;
+        let number = self.next_run;
+        let header = queue.get(&Key::Header).is_some();
+        let run = KeptRun {
+            job,
+            claim,
+            number,
+            alive: reading,
+            found: false,
+        };
+        add_run(&mut self.runs, run)?;
+        set_job(&mut self.claims, place, job);
+        let plan = JobPlan::Grant {
+            job,
+            claim,
+            number,
+            until,
+            header,
+        };
+        Ok(self.wait_for(alloc, plan))
+    }
+
+    // The claim of a place is given up.
+    fn give_up(&mut self, alloc: Global, place: usize) -> Result<ScheddStep, Memory>
+        ensures schedd { IfOk result (λ _. self.new
+            ≡ (after_give_up self.old place (slice_get self.old.claims place)).schedd) }
+        ensures step { IfOk result (λ step. step
+            ≡ (after_give_up self.old place (slice_get self.old.claims place)).step) }
+        ensures kept { OnErr result (self.new ≡ self.old) }
+    {
+        let Some(kept) = self.claims.get(place) else {
+            return Ok(ScheddStep::nothing(alloc));
+        };
+        let claim = kept.claim.no;
+        let step = ScheddStep::mail(alloc, Mail::Release { claim })?;
+        remove_claim(&mut self.claims, place);
+        Ok(step)
+    }
+
+    // ---- periodic expressions
+
+    /// Whether a look at the periodic expressions of a job is due: where it has one, the seconds of
+    /// `periodic_interval` after the last look, or at once where there was none since the pool
+    /// opened or the schedd came back. Computes in O(log jobs), without memory.
+    pub fn is_check_due(&self, queue: &Queue, job: JobId, reading: u64) -> bool
+        ensures { result ≡ is_check_due self.now queue.now job reading }
+    {
+        match ad_of(queue, job) {
+            Some(ad) => has_periodic(ad) && self.is_unchecked(job, reading),
+            None => false,
+        }
+    }
+
+    fn is_unchecked(&self, job: JobId, reading: u64) -> bool
+        ensures { result ≡ is_unchecked self.now job reading }
+    {
+        match self.checked.get(&Key::Proc(job)) {
+            Some(last) => is_after(*last, self.settings.periodic_interval, reading),
+            None => true,
+        }
+    }
+
+    // What the periodic expressions of a job want.
+    fn policy_plan(
+        &self,
+        alloc: Global,
+        place: JobPlace,
+        job: JobId,
+        ad: &Ad,
+        reading: u64,
+    ) -> Result<Option<JobPlan>, Memory>
+        ensures { IfOk result (λ plan. plan ≡ policy_plan place job ad.now reading) }
+    {
+        if can_be_held(place) && holds(alloc, ad, None, PERIODIC_HOLD, reading)? {
+            return Ok(hold_plan(place, job, Reason::ByPolicy));
+        }
+        if holds(alloc, ad, None, PERIODIC_REMOVE, reading)? {
+            return Ok(remove_plan(place, job));
+        }
+        if is_waiting(place) && holds(alloc, ad, None, PERIODIC_RELEASE, reading)? {
+            return Ok(resume_plan(place, job));
+        }
+        Ok(None)
+    }
+
+    /// A look at the periodic expressions of a job. The queue is the one as logged, and no
+    /// transaction is unfinished. After an error the schedd is as it was. Computes in O(log jobs +
+    /// jobs left), and the evaluation of up to three expressions.
+    #[tactic(auto, unfolding(crate::specs::Checks::after_check))]
+    pub fn check(
+        &mut self,
+        alloc: Global,
+        queue: &Queue,
+        job: JobId,
+        reading: u64,
+    ) -> Result<ScheddStep, Memory>
+        ensures schedd { IfOk result (λ _. self.new
+            ≡ (after_check self.old queue.now job reading).schedd) }
+        ensures step { IfOk result (λ step. step
+            ≡ (after_check self.old queue.now job reading).step) }
+        ensures kept { OnErr result (self.new ≡ self.old) }
+    {
+        let Some(ad) = ad_of(queue, job) else {
+            return Ok(ScheddStep::nothing(alloc));
+        };
+        let place = self.place(queue, job);
+        let plan = self.policy_plan(alloc, place, job, ad, reading)?;
+        let entry = NewEntry::new(alloc, Key::Proc(job), reading)?;
+        self.checked.put(entry);
+        match plan {
+            Some(plan) => Ok(self.wait_for(alloc, plan)),
+            None => Ok(ScheddStep::nothing(alloc)),
+        }
+    }
+
+    // ---- what was logged
+
+    /// What waited is logged; the queue is the one that came of it. Memory too where the next run's
+    /// number is 2 to the 64. After an error the schedd is as it was. Computes in O(runs + jobs
+    /// left + log jobs).
+    pub fn logged(&mut self, alloc: Global, queue: &Queue) -> Result<ScheddStep, Memory>
+        ensures schedd { IfOk result (λ _. self.new
+            ≡ (after_logged self.old queue.now self.old.waiting).schedd) }
+        ensures step { IfOk result (λ step. step
+            ≡ (after_logged self.old queue.now self.old.waiting).step) }
+        ensures kept { OnErr result (self.new ≡ self.old) }
+    {
+        let Some(plan) = self.waiting else {
+            return Ok(ScheddStep::nothing(alloc));
+        };
+        let mails = self.mails_of(alloc, queue, plan)?;
+        self.settle(plan)?;
+        Ok(ScheddStep { mails, plan: None })
+    }
+
+    // What a plan that was logged changes.
+    #[tactic(auto, unfolding(crate::specs::Logging::after_plan))]
+    fn settle(&mut self, plan: JobPlan) -> Result<(), Memory>
+        ensures settled { IfOk result (λ _. self.new ≡ after_plan plan self.old) }
+        ensures kept { OnErr result (self.new ≡ self.old) }
+    {
+        match plan {
+            JobPlan::Grant { number, .. } => {
+                self.next_run = number_after(number)?;
+            }
+            JobPlan::PutIdle { job } | JobPlan::PutHeld { job, .. } => self.take_off(job),
+            JobPlan::Complete { job, .. } | JobPlan::Remove { job } => {
+                self.take_off(job);
+                let _ = self.checked.remove(&Key::Proc(job));
+            }
+            _ => {}
+        }
+        self.waiting = None;
+        Ok(())
+    }
+
+    // A job is no longer one that was left.
+    fn take_off(&mut self, job: JobId)
+        ensures { self.new ≡ record self.old { left = taken_off job self.old.left } }
+    {
+        take_off(&mut self.left, job);
+    }
+
+    // What is sent once a plan is logged.
+    #[tactic(auto, unfolding(crate::specs::Logging::mails_of_plan))]
+    fn mails_of(&self, alloc: Global, queue: &Queue, plan: JobPlan) -> Result<MailList, Memory>
+        ensures { IfOk result (λ mails. mails ≡ mails_of_plan self.now queue.now plan) }
+    {
+        match plan {
+            JobPlan::MarkRemoved { job } | JobPlan::MarkHeld { job, .. } => {
+                self.stops(alloc, job)
+            }
+            JobPlan::Lengthen { job, until } => self.alives(alloc, queue, job, until),
+            JobPlan::Grant {
+                job,
+                claim,
+                number,
+                until,
+                ..
+            } => {
+                let run = RunNo {
+                    claim: claim.no,
+                    number,
+                };
+                activates(alloc, queue, run, job, until)
+            }
+            _ => Ok(MailList::new(alloc)),
+        }
+    }
+
+    fn run_of(&self, job: JobId) -> Option<RunNo>
+        ensures { result ≡ run_of_job self.now.runs job }
+    {
+        let place = place_of_job(&self.runs, job)?;
+        let kept = self.runs.get(place)?;
+        Some(kept.run())
+    }
+
+    // The run of a job is stopped.
+    fn stops(&self, alloc: Global, job: JobId) -> Result<MailList, Memory>
+        ensures { IfOk result (λ mails. mails ≡ stops (run_of_job self.now.runs job)) }
+    {
+        let mut mails = MailList::new(alloc);
+        if let Some(run) = self.run_of(job) {
+            mails.push(Mail::Stop { run })?;
+        }
+        Ok(mails)
+    }
+
+    // The run of a job is told of its lease, and again that it is to be stopped.
+    fn alives(
+        &self,
+        alloc: Global,
+        queue: &Queue,
+        job: JobId,
+        until: u64,
+    ) -> Result<MailList, Memory>
+        ensures { IfOk result (λ mails. mails
+            ≡ alives (run_of_job self.now.runs job) (is_stopped queue.now job) until) }
+    {
+        let mut mails = MailList::new(alloc);
+        let Some(run) = self.run_of(job) else {
+            return Ok(mails);
+        };
+        mails.push(Mail::Alive { run, until })?;
+        if is_stopped(queue, job) {
+            mails.push(Mail::Stop { run })?;
+        }
+        Ok(mails)
+    }
+
+    // ---- crashes
+
+    /// The schedd comes back after a crash, with the queue as logged: what waited is in it, or is
+    /// lost. Of what it knew it has the jobs that an earlier boot left, and the next run's number.
+    /// After an error the schedd is as it was. Computes in O(jobs under a claim times log jobs, and
+    /// times jobs left).
+    #[tactic(auto, unfolding(crate::specs::Logging::reopened))]
+    pub fn reopen(
+        &mut self,
+        alloc: Global,
+        queue: &Queue,
+        reading: u64,
+    ) -> Result<ScheddStep, Memory>
+        ensures schedd { IfOk result (λ _. IsReopened self.old queue.now reading self.new) }
+        ensures step { IfOk result (λ step. step ≡ nothing_done) }
+        ensures kept { OnErr result (self.new ≡ self.old) }
+    {
+        let next_run = next_after(queue, self.waiting, self.next_run)?;
+        let jobs = under_jobs(alloc, queue)?;
+        let left = still_left(alloc, queue, &self.left)?;
+        let runs = found_runs(alloc, queue, &jobs, &left, reading)?;
+        let claims = found_claims(alloc, queue, &runs)?;
+        self.next_run = next_run;
+        self.left = left;
+        self.claims = claims;
+        self.runs = runs;
+        self.checked = OrderedMap::new();
+        self.waiting = None;
+        Ok(ScheddStep::nothing(alloc))
+    }
+}
+
+// A run is to start.
+fn activates(
+    alloc: Global,
+    queue: &Queue,
+    run: RunNo,
+    job: JobId,
+    until: u64,
+) -> Result<MailList, Memory>
+    ensures { IfOk result (λ mails. mails
+        ≡ activates (ad_at (Proc job) queue.now) run job until) }
+{
+    let mut mails = MailList::new(alloc);
+    if let Some(ad) = ad_of(queue, job) {
+        let ad = request_ad(alloc, ad)?;
+        mails.push(Mail::Activate {
+            run,
+            job,
+            ad,
+            until,
+        })?;
+    }
+    Ok(mails)
+}
+
+// Whether a job is to be held or removed once its run has ended.
+fn is_stopped(queue: &Queue, job: JobId) -> bool
+    ensures { result ≡ is_stopped queue.now job }
+{
+    match ad_of(queue, job) {
+        Some(ad) => is_marked(status_of(ad)),
+        None => false,
+    }
+}
+
+fn is_marked(status: JobStatus) -> bool
+    ensures { result ≡ is_marked status }
+{
+    match status {
+        JobStatus::Removed | JobStatus::Held => true,
+        _ => false,
+    }
+}
+
+// The later of a reading and perhaps another.
+fn later(end: u64, other: Option<u64>) -> u64
+    ensures { result ≡ later end other }
+{
+    match other {
+        Some(other) => end.max(other),
+        None => end,
+    }
+}
+
+fn is_act(line: TickLine) -> bool
+    ensures { result ≡ is_act line }
+{
+    match line {
+        TickLine::Nothing => false,
+        _ => true,
+    }
+}
+
+// Whether an ad has a periodic expression, and is one of a job.
+fn has_periodic(ad: &Ad) -> bool
+    ensures { result ≡ has_periodic ad.now }
+{
+    kind_of(ad).is_some()
+        && (ad.get(PERIODIC_HOLD).is_some()
+            || ad.get(PERIODIC_REMOVE).is_some()
+            || ad.get(PERIODIC_RELEASE).is_some())
+}
+
+fn is_other(other: JobId, job: JobId) -> bool
+    ensures { result ≡ not (same_job other job) }
+{
+    other != job
+}
+
+fn take_off(left: &mut Vec<JobId>, job: JobId)
+    ensures { left.new.items ≡ taken_off job left.old.items }
+{
+    left.retain(|other| is_other(*other, job));
+}
