@@ -14,6 +14,7 @@ use Rattle.ad_tree.specs.Tree.{Tree}
 use Rattle.ad_parse.specs.AdText.{is_full_for}
 use Rattle.ad_parse.specs.ValueText.{HasReadableLiteral}
 use Rattle.job_ads.specs.Submitted.{IsReadable, AreReadable, IsSubmitted, AreSubmitted, own_attributes}
+use Rattle.job_ads.proofs.Lists.{submitted_more}
 use Rattle.job_ads.proofs.Readable.{readable_value, readable_integer}
 use Rattle.line_text.specs.declared.logical.Line.{Line}
 use Rattle.line_text.specs.Macros.{Macros}
@@ -314,10 +315,6 @@ module _ (h : Common) (owner : HasReadableLiteral (text h.owner)) (clustered : h
 
   -- ---- the jobs of a statement
 
-  more_submitted : (proc : ℕ) (ads : List Attributes) (ad : Attributes) → AreSubmitted h.cluster proc ads → IsSubmitted h.cluster (proc + length ads) ad → AreSubmitted h.cluster proc (ads ++ ad ∷ [])
-  more_submitted proc [] ad all is = (subst (λ k. IsSubmitted h.cluster k ad) (omega arith) is, tt)
-  more_submitted proc (a ∷ ads) ad all is = (all.0, more_submitted (proc + 1) ads ad all.1 (subst (λ k. IsSubmitted h.cluster k ad) (omega arith) is))
-
   abbrev AreGoodAds : AdsResult → Type 0
   AreGoodAds (Ok ads) = AreSubmitted h.cluster 0 ads
   AreGoodAds (Err f) = Unit {0}
@@ -328,7 +325,7 @@ module _ (h : Common) (owner : HasReadableLiteral (text h.owner)) (clustered : h
   made_submitted f n _ ads r free few all (and_job {i = i} {is = is} {ad = ad} job more) =
       let one : length (ads ++ ad ∷ []) ≡ length ads + 1 = length-append ads (ad ∷ []) in
       made_submitted f n is (ads ++ ad ∷ []) r free (omega (arith, few, one))
-      (more_submitted 0 ads ad all (subst (λ k. IsSubmitted h.cluster k ad) (omega arith) (job_submitted f (job_macros (decimal (length ads)) i f.table) (length ads) n (Ok ad) ad free (omega (arith, few)) job refl)))
+      (submitted_more h.cluster 0 ads ad all (subst (λ k. IsSubmitted h.cluster k ad) (omega arith) (job_submitted f (job_macros (decimal (length ads)) i f.table) (length ads) n (Ok ad) ad free (omega (arith, few)) job refl)))
       more
 
   asked_submitted : (f : FileSoFar) (n : ℕ) (q : Queue) (r : AdsResult) → AllFree f.lines.attributes → AreSubmitted h.cluster 0 f.ads → Asks h f n q r → AreGoodAds r

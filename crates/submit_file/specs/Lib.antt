@@ -4,3 +4,4 @@ pub mod Drafts
 pub mod Origins
 pub mod SubmittedJobs
 pub mod Plans
+pub mod OtherReadings
