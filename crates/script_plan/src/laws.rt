@@ -1,15 +1,15 @@
 //! What holds of all scripts and loads.
 
-ghost use Rattle.std.specs.Prelude.{◌≡◌, ◌<◌, ◌^◌, ℕ, List, length, Some, slice_get};
+ghost use Rattle.std.specs.Prelude.{◌≡◌, ◌↔◌, ◌⊎◌, ◌<◌, ◌≤◌, ◌^◌, ℕ, List, length, Some, slice_get};
 ghost use Rattle.ad_parse.specs.ValueText.{HasReadableLiteral};
 ghost use Rattle.ad_value.specs.Content.{text};
-ghost use Rattle.claim_id.specs.declared.numbers.JobId.{JobId};
-ghost use Rattle.job_ads.specs.Submitted.{IsSubmitted};
+ghost use Rattle.job_ads.specs.Submitted.{AreSubmitted};
 ghost use Rattle.line_text.specs.declared.logical.Line.{Line};
 ghost use Rattle.line_text.specs.Lines.{logical_lines};
+ghost use Rattle.pool_outer.specs.declared.clock.TheConstants.{LAST_READING};
 ghost use Rattle.script_plan.specs.declared.entry.Entry.{Entry};
 ghost use Rattle.script_plan.specs.declared.script.Script.{Script};
-ghost use Rattle.script_plan.specs.Loads.{load_ad, load_ads, job_of_load};
+ghost use Rattle.script_plan.specs.Loads.{load_ads, job_of_load};
 ghost use Rattle.script_plan.specs.Scripts.{LineSays, IsScript, IsFirstBad};
 
 /// A line says one thing.
@@ -39,11 +39,12 @@ pub fn load_has_its_jobs()
         ≡ Some (job_of_load number cluster owner now proc) }
 {}
 
-/// The ad of a load's job meets what is asked of one that is submitted, where the owner's name can
-/// be written down and read again.
+/// The ads of a load's jobs, which are numbered from 0, meet what is asked of a submission exactly
+/// where there are none, or where the owner is a text whose string can be written down and read
+/// again; each name is one.
 pub fn jobs_of_a_load_are_submitted()
-    ensures { (job : JobId) (owner : List ℕ) (now memory : ℕ)
-        → job.cluster < 2 ^ 63 → job.proc < 2 ^ 63 → now < 2 ^ 63 → memory < 2 ^ 63
-        → HasReadableLiteral (text owner)
-        → IsSubmitted job.cluster job.proc (load_ad job owner now memory) }
+    ensures { (number cluster now jobs : ℕ) (owner : List ℕ)
+        → cluster < 2 ^ 32 → jobs < 2 ^ 32 → now ≤ LAST_READING
+        → AreSubmitted cluster 0 (load_ads number cluster owner now jobs)
+        ↔ ((jobs ≡ 0) ⊎ HasReadableLiteral (text owner)) }
 {}

@@ -1,6 +1,9 @@
 // The ads of a load's jobs.
 
 ghost use Rattle.std.specs.Prelude.{◌≡◌, ◌<◌, ◌≤◌, ◌^◌, IfOk};
+ghost use Rattle.ad_value.specs.Content.{text};
+ghost use Rattle.ad_parse.specs.ValueText.{HasReadableLiteral};
+ghost use Rattle.job_ads.specs.Submitted.{AreSubmitted};
 ghost use Rattle.script_plan.specs.Loads.{load_ad, load_ads, memory_of, next_number};
 
 use ad_names::job::{
@@ -28,7 +31,9 @@ pub fn load(
     now: u64,
 ) -> Result<AdList, Memory>
     requires { now ≤ LAST_READING }
-    ensures { IfOk result (λ ads. ads ≡ load_ads number cluster owner.now now jobs) }
+    ensures ads { IfOk result (λ ads. ads ≡ load_ads number cluster owner.now now jobs) }
+    ensures submitted { HasReadableLiteral (text owner.now)
+        → IfOk result (AreSubmitted cluster 0) }
 {
     let mut ads = AdList::new(alloc);
     let mut number = u64::from(number);

@@ -1,5 +1,5 @@
-use Rattle.script_plan.proofs.LoadLemmas.{submitted}
+use Rattle.script_plan.proofs.LoadLemmas.{exactly}
 use Rattle.script_plan.proofs.laws.jobs_of_a_load_are_submitted.Goals as goal
 
 pub returns : goal.returns
-returns c = submitted
+returns c = exactly

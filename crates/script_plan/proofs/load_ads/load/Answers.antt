@@ -1,6 +1,6 @@
 use Rattle.std.proofs.Common.{◌≡◌, ◌+◌, [], ◌∷◌, ◌++◌, sym, ap, ◌∙◌, arith}
-use Rattle.script_plan.specs.Loads.{load_ad, number_after, next_number, memory_of}
-use Rattle.script_plan.proofs.LoadLemmas.{load_none, load_more, number_none, number_more}
+use Rattle.script_plan.specs.Loads.{load_ads, load_ad, number_after, next_number, memory_of}
+use Rattle.script_plan.proofs.LoadLemmas.{loaded_submitted, load_none, load_more, number_none, number_more}
 use Rattle.script_plan.proofs.load_ads.load.Goals as goal
 
 pub loop-proc-init : goal.loop-proc-init
@@ -22,3 +22,12 @@ loop-proc-preserved c =
       number = number;
       within = c.next_number-number.ensures.within;
     }
+
+pub returns-clause-submitted : goal.returns-clause-submitted
+returns-clause-submitted c = λ owned.
+    let end = c.loop-proc-test.false in
+    let most = c.loop-proc.auto.proc-end in
+    let all : c.loop-proc.proc ≡ c.args.jobs = omega (arith, end, most) in
+    loaded_submitted c.args.number c.args.cluster c.args.now c.args.jobs c.args.owner.now c.loop-proc.ads
+    (c.loop-proc.invariant.ads ∙ ap (load_ads c.args.number c.args.cluster c.args.owner.now c.args.now) all)
+    (omega (arith, c.ranges.cluster.fits)) (omega (arith, c.ranges.jobs.fits)) c.requires owned
