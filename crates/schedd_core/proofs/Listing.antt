@@ -1,12 +1,12 @@
 -- The jobs under a claim, one after the other.
-use Rattle.std.proofs.Common.{◌≡◌, ◌⊎◌, inl, inr, ℕ, ◌+◌, ◌<◌, ◌≤◌, suc, true, false, Bool, cond, List, [], ◌∷◌, ◌++◌, length, append_assoc, Option, Some, None, is_some, option_map, refl, ap, sym, ◌∙◌, subst, arith}
+use Rattle.std.proofs.Common.{◌≡◌, ℕ, ◌+◌, ◌<◌, ◌≤◌, suc, true, false, Bool, cond, List, [], ◌∷◌, ◌++◌, length, append_assoc, Option, Some, None, is_some, option_map, refl, ap, sym, ◌∙◌, subst, arith}
 use Rattle.std.specs.declared.ops.Bound.{Bound}
 use denote.Ref.{Bor}
 use Rattle.std.specs.Ordering.{is_lt}
 use Rattle.claim_id.specs.declared.numbers.JobId.{JobId}
 use Rattle.ordered_map.specs.Trees.{is_past}
 use Rattle.queue_tx.specs.declared.key.Key.{Key}
-use Rattle.queue_tx.specs.declared.key.Key.TheVariants.{Header, Proc}
+use Rattle.queue_tx.specs.declared.key.Key.TheVariants.{Proc}
 use Rattle.queue_tx.specs.declared.kind.JobKind.TheVariants.{Under}
 use Rattle.queue_tx.specs.Keys.{key_cmp}
 use Rattle.queue_tx.specs.Jobs.{FirstKey, IsJobOf}

@@ -1,5 +1,5 @@
 -- What a mail makes of a schedd: the row that fits, and what that row does.
-use Rattle.std.specs.Prelude.{ℕ, Bool, true, false, List, [], ◌∷◌, ◌++◌, Option, Some, None, is_some, slice_get, slice_set}
+use Rattle.std.specs.Prelude.{ℕ, Bool, List, [], ◌∷◌, ◌++◌, Option, Some, None, is_some, slice_get, slice_set}
 use Rattle.ad_tree.specs.Ad.{Attributes}
 use Rattle.claim_id.specs.declared.numbers.ClaimId.{ClaimId}
 use Rattle.claim_id.specs.declared.numbers.ClaimNo.{ClaimNo}

@@ -1,5 +1,5 @@
 -- Jobs of the queue that the schedd looks for.
-use Rattle.std.specs.Prelude.{◌≡◌, Bool, true, false, List, [], ◌∷◌, Option, Some, None, option_map, if◌then◌else◌}
+use Rattle.std.specs.Prelude.{◌≡◌, Bool, true, false, List, [], ◌∷◌, Option, Some, None, option_map}
 use Rattle.std.specs.Ordering.{is_gt}
 use Rattle.ad_tree.specs.Ad.{Attributes}
 use Rattle.claim_id.specs.declared.numbers.JobId.{JobId}

@@ -1,5 +1,5 @@
 -- What a tick makes of a schedd: the first line that is due, and what that line does.
-use Rattle.std.specs.Prelude.{◌≡◌, ℕ, Bool, true, false, max, ◌+◌, List, [], ◌∷◌, Option, Some, None, is_some, slice_get, if◌then◌else◌}
+use Rattle.std.specs.Prelude.{◌≡◌, ℕ, Bool, true, false, max, List, [], ◌∷◌, Option, Some, None, is_some, slice_get, if◌then◌else◌}
 use Rattle.std.specs.declared.ops.Bound.TheVariants.{Unbounded}
 use Rattle.ad_tree.specs.Ad.{Attributes}
 use Rattle.claim_id.specs.declared.numbers.ClaimNo.{ClaimNo}

@@ -1,6 +1,5 @@
 use Rattle.std.proofs.Common.{rules, ◌≡◌, ◌∙◌, Option, None, refl, sym, subst}
 use Rattle.std.specs.declared.ops.Bound.TheVariants.{Unbounded}
-use Rattle.std.specs.Option.{option_copied}
 use Rattle.queue_tx.specs.declared.key.Key.{Key}
 use Rattle.queue_tx.specs.declared.kind.JobKind.TheVariants.{Idle}
 use Rattle.queue_tx.specs.Jobs.{FirstKey}
