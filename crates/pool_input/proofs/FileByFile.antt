@@ -5,13 +5,13 @@ use Rattle.std.proofs.lemmas.List.Elements.{filter_map-append}
 use Rattle.std.specs.List.{filter_map}
 use Rattle.ad_tree.specs.Ad.{Attributes}
 use Rattle.pool_outer.specs.Files.{Contents}
-use Rattle.pool_core.specs.declared.event.Event.TheVariants.{Submit}
-use Rattle.pool_core.specs.declared.history.Step.{Step}
-use Rattle.pool_core.specs.CourseValue.{CourseValue}
-use Rattle.pool_core.specs.Histories.{submissions_in, submission_in}
-use Rattle.pool_core.specs.PoolValue.{PoolValue}
-use Rattle.pool_core.specs.Reactions.{next_cluster, pool_after, refusal}
-use Rattle.pool_core.specs.Resting.{IsResting}
+use Rattle.thin_pool.specs.declared.event.Event.TheVariants.{Submit}
+use Rattle.thin_pool.specs.declared.history.Step.{Step}
+use Rattle.thin_pool.specs.CourseValue.{CourseValue}
+use Rattle.thin_pool.specs.Histories.{submissions_in, submission_in}
+use Rattle.thin_pool.specs.PoolValue.{PoolValue}
+use Rattle.thin_pool.specs.Reactions.{next_cluster, pool_after, refusal}
+use Rattle.thin_pool.specs.Resting.{IsResting}
 use Rattle.pool_input.specs.declared.fault.Fault.{Fault}
 use Rattle.pool_input.specs.declared.fault.Fault.TheVariants as fault
 use Rattle.pool_input.specs.declared.status.Status.{Status}

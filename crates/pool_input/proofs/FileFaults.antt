@@ -12,8 +12,8 @@ use Rattle.submit_file.specs.declared.error.SubmitError.{SubmitError}
 use Rattle.submit_file.specs.declared.error.SubmitError.TheVariants as submit
 use Rattle.submit_file.specs.Errors.{UnlessMemory as UnlessNoMemory}
 use Rattle.submit_file.specs.SubmittedJobs.{SubmittedJobs}
-use Rattle.pool_core.specs.PoolValue.{PoolValue}
-use Rattle.pool_core.specs.Reactions.{next_cluster}
+use Rattle.thin_pool.specs.PoolValue.{PoolValue}
+use Rattle.thin_pool.specs.Reactions.{next_cluster}
 use Rattle.pool_input.specs.declared.fault.Fault.{Fault}
 use Rattle.pool_input.specs.declared.fault.Fault.TheVariants as fault
 use Rattle.pool_input.specs.declared.files.ReadError.{ReadError}

@@ -3,12 +3,12 @@ use Rattle.std.proofs.Common.{◌≡◌, ◌∙◌, inl, inr, ℕ, List, Option,
 use Rattle.ad_tree.specs.Ad.{Attributes}
 use Rattle.pool_outer.specs.Files.{Contents}
 use Rattle.pool_config.specs.Configuration.{Configuration}
-use Rattle.pool_core.specs.CourseValue.{CourseValue}
-use Rattle.pool_core.specs.Histories.{submissions_in}
-use Rattle.pool_core.specs.declared.slot.SlotAd.{SlotAd}
-use Rattle.pool_core.specs.PoolValue.{PoolValue}
-use Rattle.pool_core.specs.Reactions.{opening_pool}
-use Rattle.pool_core.specs.Resting.{IsResting}
+use Rattle.thin_pool.specs.CourseValue.{CourseValue}
+use Rattle.thin_pool.specs.Histories.{submissions_in}
+use Rattle.thin_pool.specs.declared.slot.PoolSlot.{PoolSlot}
+use Rattle.thin_pool.specs.PoolValue.{PoolValue}
+use Rattle.thin_pool.specs.Reactions.{opening_pool}
+use Rattle.thin_pool.specs.Resting.{IsResting}
 use Rattle.pool_input.specs.declared.fault.Fault.{Fault}
 use Rattle.pool_input.specs.declared.fault.Fault.TheVariants as fault
 use Rattle.pool_input.specs.declared.status.Status.{Status}
@@ -58,7 +58,7 @@ config_stops allows file config submits fault.Memory s refused (inl is) = rw is 
 config_stops allows file config submits fault.Memory s refused (inr is) = rw is tt
 
 -- a pool that was opened, and to which only submissions have happened since
-pub submitted_of : (allows : ℕ → Type 0) (slots : List SlotAd) (old new : CourseValue) → old.opening ≡ opening_pool slots → old.pool ≡ old.opening → ArePlaced old.opening.slots 64 → new.opening ≡ old.opening → new.pool.slots ≡ old.pool.slots → new.list ≡ submit_steps (submissions_in new.list) → AreRead allows new.list → IsResting new.pool → HasSubmitted allows new
+pub submitted_of : (allows : ℕ → Type 0) (slots : List PoolSlot) (old new : CourseValue) → old.opening ≡ opening_pool slots → old.pool ≡ old.opening → ArePlaced old.opening.slots 64 → new.opening ≡ old.opening → new.pool.slots ≡ old.pool.slots → new.list ≡ submit_steps (submissions_in new.list) → AreRead allows new.list → IsResting new.pool → HasSubmitted allows new
 submitted_of allows slots old new opening begun placed kept same steps read rests =
     let now : new.opening ≡ opening_pool slots = kept ∙ opening in
     record {
@@ -76,5 +76,5 @@ submits_with allows file said owner names p q done end same begun submits = subs
 pub stops_with : (allows : ℕ → Type 0) (file : Contents) (said owner : List ℕ) (names : List (List ℕ)) (p q : PoolValue) (s : Status) → said ≡ owner → p ≡ q → UnlessFault (StopsAt allows file said names p) s → UnlessFault (StopsAt allows file owner names q) s
 stops_with allows file said owner names p q s same begun stops = subst (λ (o : List ℕ). UnlessFault (StopsAt allows file o names q) s) same (subst (λ (r : PoolValue). UnlessFault (StopsAt allows file said names r) s) begun stops)
 
-pub opening_rests : (o p : PoolValue) (slots : List SlotAd) → p ≡ o → o ≡ opening_pool slots → IsResting p
+pub opening_rests : (o p : PoolValue) (slots : List PoolSlot) → p ≡ o → o ≡ opening_pool slots → IsResting p
 opening_rests o p slots begun opening = rw (begun, opening) (record { is_open = refl; no_runs = refl })

@@ -4,11 +4,11 @@ use Rattle.ad_tree.specs.Ad.{Attributes}
 use Rattle.pool_outer.specs.Cause.{Rose}
 use Rattle.pool_outer.specs.declared.limit.Which.TheVariants as which
 use Rattle.submit_file.specs.SubmittedJobs.{AdsResult, SubmittedJobs}
-use Rattle.pool_core.specs.declared.answer.StepError.TheVariants.{Jobs}
-use Rattle.pool_core.specs.declared.event.Event.TheVariants.{Submit}
-use Rattle.pool_core.specs.CourseValue.{CourseValue}
-use Rattle.pool_core.specs.PoolValue.{PoolValue}
-use Rattle.pool_core.specs.Reactions.{next_cluster, pool_after, refusal}
+use Rattle.thin_pool.specs.declared.answer.StepError.TheVariants.{Jobs}
+use Rattle.thin_pool.specs.declared.event.Event.TheVariants.{Submit}
+use Rattle.thin_pool.specs.CourseValue.{CourseValue}
+use Rattle.thin_pool.specs.PoolValue.{PoolValue}
+use Rattle.thin_pool.specs.Reactions.{next_cluster, pool_after, refusal}
 use Rattle.pool_input.specs.declared.fault.Fault.{Fault}
 use Rattle.pool_input.specs.declared.fault.Fault.TheVariants as fault
 use Rattle.pool_input.specs.Faults.{UnlessOut, IsFileFault}

@@ -1,8 +1,8 @@
 -- One more reading of a history.
 use Rattle.std.proofs.Common.{ℕ, List, [], ◌∷◌, ◌++◌}
 use Rattle.std.proofs.lemmas.List.Elements.{All-push}
-use Rattle.pool_core.specs.declared.history.Step.{Step}
-use Rattle.pool_core.specs.Events.{reading_of}
+use Rattle.thin_pool.specs.declared.history.Step.{Step}
+use Rattle.thin_pool.specs.Events.{reading_of}
 use Rattle.pool_input.specs.Readings.{AreRead, IsInCalendar}
 
 pub read_more : (allows : ℕ → Type 0) (list : List Step) (s : Step) → AreRead allows list → allows (reading_of s.event) → IsInCalendar (reading_of s.event) → AreRead allows (list ++ s ∷ [])

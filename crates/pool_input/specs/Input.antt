@@ -8,13 +8,13 @@ use Rattle.pool_config.specs.declared.error.ConfigError.{ConfigError}
 use Rattle.pool_config.specs.declared.slots.ConfiguredSlot.{ConfiguredSlot}
 use Rattle.pool_config.specs.Lines.{IsConfiguration}
 use Rattle.pool_config.specs.Slots.{configured_slots}
-use Rattle.pool_core.specs.declared.history.Step.{Step}
-use Rattle.pool_core.specs.declared.slot.SlotAd.{SlotAd}
-use Rattle.pool_core.specs.CourseValue.{CourseValue}
-use Rattle.pool_core.specs.Histories.{submissions_in}
-use Rattle.pool_core.specs.PoolValue.{PoolValue}
-use Rattle.pool_core.specs.Reactions.{opening_pool}
-use Rattle.pool_core.specs.Resting.{IsResting}
+use Rattle.thin_pool.specs.declared.history.Step.{Step}
+use Rattle.thin_pool.specs.declared.slot.PoolSlot.{PoolSlot}
+use Rattle.thin_pool.specs.CourseValue.{CourseValue}
+use Rattle.thin_pool.specs.Histories.{submissions_in}
+use Rattle.thin_pool.specs.PoolValue.{PoolValue}
+use Rattle.thin_pool.specs.Reactions.{opening_pool}
+use Rattle.thin_pool.specs.Resting.{IsResting}
 use Rattle.pool_input.specs.declared.fault.Fault.{Fault}
 use Rattle.pool_input.specs.declared.status.Status.{Status}
 use Rattle.pool_input.specs.Faults.{config_fault, fault_status}
@@ -34,14 +34,10 @@ pub data IsConfigRefused (file : Option (List ℕ)) : Fault → Type 0 where
       → IsConfiguration text (Err e) → IsConfigRefused file (config_fault e)
 
 -- a slot of the configuration, as the pool has it
-abbrev pub pool_slot : ConfiguredSlot → SlotAd
-pool_slot s = record {
-  slot = record { machine = s.slot.machine; slot = s.slot.slot };
-  name = s.name;
-  ad = s.ad;
-}
+abbrev pub pool_slot : ConfiguredSlot → PoolSlot
+pool_slot s = record { slot = s.slot; name = s.name; ad = s.ad }
 
-abbrev pub pool_slots : Configuration → List SlotAd
+abbrev pub pool_slots : Configuration → List PoolSlot
 pool_slots c = map pool_slot (configured_slots c)
 
 -- a pool has the slots of the configuration, and what is submitted is what the submit files ask
@@ -90,7 +86,7 @@ OfInputFrom allows file words None list = Unit {0}
 OfInputFrom allows file words (Some opening) list = IsOfInput allows file words opening list
 
 -- each slot is of one of so many machines
-abbrev pub ArePlaced : List SlotAd → ℕ → Type 0
+abbrev pub ArePlaced : List PoolSlot → ℕ → Type 0
 ArePlaced slots machines = All (λ s. s.slot.machine < machines) slots
 
 -- a pool to which only submissions have happened, at readings of the clock, in which nothing runs

@@ -1,8 +1,8 @@
 -- The readings of a history.
 use Rattle.std.specs.Prelude.{ℕ, ◌≤◌, List, All}
 use Rattle.pool_outer.specs.declared.clock.TheConstants.{LAST_READING}
-use Rattle.pool_core.specs.declared.history.Step.{Step}
-use Rattle.pool_core.specs.Events.{reading_of}
+use Rattle.thin_pool.specs.declared.history.Step.{Step}
+use Rattle.thin_pool.specs.Events.{reading_of}
 
 -- a number that a clock may read
 abbrev pub IsInCalendar : ℕ → Type 0

@@ -6,13 +6,13 @@ use Rattle.pool_outer.specs.Files.{Contents}
 use Rattle.pool_outer.specs.declared.limit.Which.TheVariants as which
 use Rattle.submit_file.specs.declared.error.SubmitError.{SubmitError}
 use Rattle.submit_file.specs.SubmittedJobs.{AdsResult, SubmittedJobs}
-use Rattle.pool_core.specs.declared.answer.Kept.TheVariants as kept
-use Rattle.pool_core.specs.declared.answer.StepError.TheVariants.{Jobs}
-use Rattle.pool_core.specs.declared.event.Event.TheVariants.{Submit}
-use Rattle.pool_core.specs.declared.history.Step.{Step}
-use Rattle.pool_core.specs.CourseValue.{CourseValue}
-use Rattle.pool_core.specs.PoolValue.{PoolValue}
-use Rattle.pool_core.specs.Reactions.{next_cluster, pool_after, refusal}
+use Rattle.thin_pool.specs.declared.answer.Kept.TheVariants as kept
+use Rattle.thin_pool.specs.declared.answer.StepError.TheVariants.{Jobs}
+use Rattle.thin_pool.specs.declared.event.Event.TheVariants.{Submit}
+use Rattle.thin_pool.specs.declared.history.Step.{Step}
+use Rattle.thin_pool.specs.CourseValue.{CourseValue}
+use Rattle.thin_pool.specs.PoolValue.{PoolValue}
+use Rattle.thin_pool.specs.Reactions.{next_cluster, pool_after, refusal}
 use Rattle.pool_input.specs.declared.fault.Fault.{Fault}
 use Rattle.pool_input.specs.declared.fault.Fault.TheVariants.{Refused, Limit}
 use Rattle.pool_input.specs.declared.files.TheConstants.{MOST_BYTES}

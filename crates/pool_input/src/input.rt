@@ -4,8 +4,8 @@ ghost use Rattle.pool_outer.specs.Cause.{Rose};
 ghost use Rattle.pool_outer.specs.Files.{SameFiles};
 ghost use Rattle.pool_config.specs.Configuration.{configuration_of, HaveSlots, IsWithinLimits};
 ghost use Rattle.pool_config.specs.declared.config.TheConstants.{MAX_MACHINES};
-ghost use Rattle.pool_core.specs.Histories.{submissions_in};
-ghost use Rattle.pool_core.specs.Reactions.{opening_pool};
+ghost use Rattle.thin_pool.specs.Histories.{submissions_in};
+ghost use Rattle.thin_pool.specs.Reactions.{opening_pool};
 ghost use Rattle.pool_input.specs.Faults.{IsFileFault, UnlessFault, UnlessOut};
 ghost use Rattle.pool_input.specs.Input.{HasSubmitted, IsConfigFile, IsConfigRefused, IsOfFiles, IsRefusedOf, ArePlaced, pool_slot, pool_slots};
 ghost use Rattle.pool_input.specs.Status.{stage_of, IsAtFiles};
@@ -19,9 +19,9 @@ use crate::submitting::submit_files;
 use crate::words::Named;
 use ad_value::{Copied, Memory, Text};
 use pool_config::{Config, ConfiguredSlot, configured_slots, read};
-use pool_core::{Course, SlotAd, SlotAdList, SlotId};
 use pool_outer::{Clock, Store};
 use std::alloc::Global;
+use thin_pool::{Course, PoolSlot, PoolSlotList};
 
 /// The pool of the files that a command names: with the slots of the configuration, and with the
 /// jobs of the submit files, in order, each file as one submission. The status says why where it
@@ -118,27 +118,24 @@ fn open(alloc: Global, config: &Config) -> Result<Course, Memory>
 }
 
 // The slots of a configuration, as the pool has them.
-fn pool_slots(alloc: Global, config: &Config) -> Result<SlotAdList, Memory>
+fn pool_slots(alloc: Global, config: &Config) -> Result<PoolSlotList, Memory>
     requires { IsWithinLimits (configuration_of config.now) }
     ensures { IfOk result (λ s. s ≡ pool_slots (configuration_of config.now)) }
 {
     let configured = configured_slots(alloc, config)?;
     let each = configured.as_slice();
-    let mut slots = SlotAdList::new(alloc);
+    let mut slots = PoolSlotList::new(alloc);
     for slot in each {
         slots.push(pool_slot(alloc, slot)?)?;
     }
     Ok(slots)
 }
 
-fn pool_slot(alloc: Global, slot: &ConfiguredSlot) -> Result<SlotAd, Memory>
+fn pool_slot(alloc: Global, slot: &ConfiguredSlot) -> Result<PoolSlot, Memory>
     ensures { IfOk result (λ s. s ≡ pool_slot slot.now) }
 {
-    Ok(SlotAd {
-        slot: SlotId {
-            machine: slot.slot.machine,
-            slot: slot.slot.slot,
-        },
+    Ok(PoolSlot {
+        slot: slot.slot,
         name: slot.name.copy(alloc)?,
         ad: slot.ad.copy(alloc)?,
     })

@@ -1,11 +1,11 @@
 ghost use Rattle.std.specs.Prelude.{◌≡◌, ◌≤◌, ◌⊎◌, ◌∷◌, ◌++◌, [], true, false, None, Some, IfErr, OnOk, OnErr};
 ghost use Rattle.pool_outer.specs.Cause.{Rose};
 ghost use Rattle.pool_outer.specs.Files.{SameFiles};
-ghost use Rattle.pool_core.specs.Histories.{submissions_in};
-ghost use Rattle.pool_core.specs.declared.answer.StepError.TheVariants.{Jobs};
-ghost use Rattle.pool_core.specs.declared.event.Event.TheVariants.{Submit};
-ghost use Rattle.pool_core.specs.Reactions.{pool_after, refusal};
-ghost use Rattle.pool_core.specs.Resting.{IsResting};
+ghost use Rattle.thin_pool.specs.Histories.{submissions_in};
+ghost use Rattle.thin_pool.specs.declared.answer.StepError.TheVariants.{Jobs};
+ghost use Rattle.thin_pool.specs.declared.event.Event.TheVariants.{Submit};
+ghost use Rattle.thin_pool.specs.Reactions.{pool_after, refusal};
+ghost use Rattle.thin_pool.specs.Resting.{IsResting};
 ghost use Rattle.pool_input.specs.Faults.{IsFileFault, UnlessFault, UnlessOut};
 ghost use Rattle.pool_input.specs.Readings.{AreRead};
 ghost use Rattle.pool_input.specs.Status.{stage_of, IsAtFiles};
@@ -16,10 +16,10 @@ use crate::fault::{Fault, fault_status, submit_fault};
 use crate::input::read_text;
 use crate::status::Status;
 use ad_tree::AdList;
-use pool_core::{Course, Event, StepError};
 use pool_outer::{Clock, Store, Which};
 use std::alloc::Global;
 use submit_file::jobs;
+use thin_pool::{Course, Event, StepError};
 
 /// Submits what the files of these names ask for, in order.
 pub(crate) fn submit_files<D: Store, C: Clock>(

@@ -6,15 +6,15 @@ use Rattle.std.specs.List.{All, filter_map}
 use Rattle.ad_tree.specs.Ad.{Attributes}
 use Rattle.ad_eval.specs.Judgement.{Judgement, Mismatch}
 use Rattle.pool_outer.specs.declared.spawner.Launch.{Launch}
-use Rattle.pool_core.specs.declared.event.End.{End}
-use Rattle.pool_core.specs.declared.history.Step.{Step}
-use Rattle.pool_core.specs.declared.numbers.JobId.{JobId}
-use Rattle.pool_core.specs.declared.numbers.SlotId.{SlotId}
-use Rattle.pool_core.specs.declared.slot.SlotAd.{SlotAd}
-use Rattle.pool_core.specs.Histories.{submissions_in, submission_in}
-use Rattle.pool_core.specs.PoolValue.{slot_at}
-use Rattle.pool_core.specs.Numbers.{same_slot}
-use Rattle.pool_core.proofs.Tables.{same_slot-true}
+use Rattle.claim_id.specs.declared.numbers.JobId.{JobId}
+use Rattle.claim_id.specs.declared.numbers.SlotId.{SlotId}
+use Rattle.pool_mail.specs.declared.end.End.{End}
+use Rattle.pool_view.specs.Numbers.{same_slot}
+use Rattle.pool_view.proofs.Sameness.{same_slot-true}
+use Rattle.thin_pool.specs.declared.history.Step.{Step}
+use Rattle.thin_pool.specs.declared.slot.PoolSlot.{PoolSlot}
+use Rattle.thin_pool.specs.Histories.{submissions_in, submission_in}
+use Rattle.thin_pool.specs.PoolValue.{slot_at}
 use Rattle.pool_input.specs.Input.{ArePlaced}
 use Rattle.pool_input.specs.Readings.{AreRead, IsInCalendar}
 use Rattle.pool_input.proofs.Reading.{read_more}
@@ -59,7 +59,7 @@ closed_runs reading none old new is ended = ap runs_in is ∙ close_runs old rea
 -- ---- slots
 
 -- the machine of a slot that is there is one of so many
-pub machine_below : (slots : List SlotAd) (machines : ℕ) (slot : SlotId) → ArePlaced slots machines → IsSome (slot_at slot slots) → slot.machine < machines
+pub machine_below : (slots : List PoolSlot) (machines : ℕ) (slot : SlotId) → ArePlaced slots machines → IsSome (slot_at slot slots) → slot.machine < machines
 machine_below [] machines slot placed there = absurd (true≢false (sym there))
 machine_below (s ∷ ss) machines slot placed there = by (same_slot slot s.slot) refl there (λ t. machine_below ss machines slot (λ k d below. placed (suc k) d (omega arith)) t)
   where

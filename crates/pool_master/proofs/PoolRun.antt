@@ -5,13 +5,13 @@ use Rattle.std.proofs.lemmas.List.{append-nil}
 use Rattle.ad_tree.specs.Ad.{Attributes}
 use Rattle.pool_outer.specs.Cause.{Rose}
 use Rattle.pool_outer.specs.declared.limit.Which.TheVariants as which
-use Rattle.pool_core.specs.declared.history.History.{History}
-use Rattle.pool_core.specs.declared.history.Step.{Step}
-use Rattle.pool_core.specs.PoolValue.{PoolValue}
-use Rattle.pool_core.specs.Histories.{LeadsTo, IsHistory, Shows, ends_in_close, submissions_in}
-use Rattle.pool_core.specs.Moving.{EachMoves}
-use Rattle.pool_core.specs.Reactions.{opening_pool, pool_after}
 use Rattle.pool_outer.specs.Files.{Contents}
+use Rattle.thin_pool.specs.declared.history.History.{History}
+use Rattle.thin_pool.specs.declared.history.Step.{Step}
+use Rattle.thin_pool.specs.PoolValue.{PoolValue}
+use Rattle.thin_pool.specs.Histories.{LeadsTo, IsHistory, Shows, ends_in_close, submissions_in}
+use Rattle.thin_pool.specs.Moving.{EachMoves}
+use Rattle.thin_pool.specs.Reactions.{opening_pool, pool_after}
 use Rattle.pool_input.specs.declared.status.Status.{Status}
 use Rattle.pool_input.specs.declared.status.Status.TheVariants as status
 use Rattle.pool_input.specs.Faults.{UnlessFault}

@@ -6,17 +6,17 @@ use Rattle.std.specs.List.{filter_map}
 use Rattle.ad_tree.specs.Ad.{Attributes}
 use Rattle.ad_eval.specs.Judgement.{Judgement, Mismatch}
 use Rattle.pool_outer.specs.declared.spawner.Launch.{Launch}
-use Rattle.pool_core.specs.declared.answer.Kept.{Kept}
-use Rattle.pool_core.specs.declared.answer.Kept.TheVariants as kept
-use Rattle.pool_core.specs.declared.event.End.{End}
-use Rattle.pool_core.specs.declared.event.Event.{Event}
-use Rattle.pool_core.specs.declared.event.Event.TheVariants.{Submit, Start, Ended, Close}
-use Rattle.pool_core.specs.declared.history.Step.{Step}
-use Rattle.pool_core.specs.declared.numbers.JobId.{JobId}
-use Rattle.pool_core.specs.declared.numbers.SlotId.{SlotId}
-use Rattle.pool_core.specs.Histories.{submissions_in, submission_in}
-use Rattle.pool_core.specs.Numbers.{same_job}
-use Rattle.pool_core.proofs.Steps.{same_job-same}
+use Rattle.claim_id.specs.declared.numbers.JobId.{JobId}
+use Rattle.claim_id.specs.declared.numbers.SlotId.{SlotId}
+use Rattle.pool_mail.specs.declared.end.End.{End}
+use Rattle.pool_view.specs.Numbers.{same_job}
+use Rattle.pool_view.proofs.Sameness.{same_job-same}
+use Rattle.thin_pool.specs.declared.answer.Kept.{Kept}
+use Rattle.thin_pool.specs.declared.answer.Kept.TheVariants as kept
+use Rattle.thin_pool.specs.declared.event.Event.{Event}
+use Rattle.thin_pool.specs.declared.event.Event.TheVariants.{Submit, Start, Ended, Close}
+use Rattle.thin_pool.specs.declared.history.Step.{Step}
+use Rattle.thin_pool.specs.Histories.{submissions_in, submission_in}
 use Rattle.pool_input.specs.Submissions.{submit_step, submit_steps}
 use Rattle.pool_master.specs.Runs.{JobRun, end_in, first_end, end_after, run_begun, runs_in, HaveEnded}
 

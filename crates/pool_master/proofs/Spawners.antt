@@ -12,10 +12,10 @@ use Rattle.pool_outer.specs.declared.spawner.ChildState.{ChildState}
 use Rattle.pool_outer.specs.declared.spawner.Launch.{Launch}
 use Rattle.pool_outer.specs.Cause.{Rose, RoseBy}
 use Rattle.ad_value.specs.declared.memory.Memory.{Memory}
-use Rattle.pool_core.specs.declared.event.End.{End}
-use Rattle.pool_core.specs.declared.event.End.TheVariants.{Exited, Signalled, NotStarted}
-use Rattle.pool_core.specs.declared.numbers.JobId.{JobId}
-use Rattle.pool_core.specs.declared.numbers.SlotId.{SlotId}
+use Rattle.claim_id.specs.declared.numbers.JobId.{JobId}
+use Rattle.claim_id.specs.declared.numbers.SlotId.{SlotId}
+use Rattle.pool_mail.specs.declared.end.End.{End}
+use Rattle.pool_mail.specs.declared.end.End.TheVariants.{Exited, Signalled, NotStarted}
 use Rattle.pool_master.specs.Runs.{JobRun, runs_on, has_ended, may_have_started, is_not_started, child_runs, possible_runs, not_started_count, HaveEnded, run_launches, IsLaunched, child_launch, child_state, IsSeen, EndAsSeen}
 use Rattle.pool_master.specs.Follows.{Serves, IsChildCount, Follows, HasLaunched, spawner_at, IsBetween, EachGoesOn, AreUntouched, StayUntouched, RunsOne, RunsChild, RunsNoChild}
 use Rattle.pool_master.specs.Seen.{SpawnerSeen}

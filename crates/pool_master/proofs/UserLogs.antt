@@ -5,24 +5,24 @@ use Rattle.std.specs.List.{All}
 use Rattle.jiff.specs.Words.{date_text, time_text}
 use Rattle.jiff.specs.declared.civil.DateTime.{DateTime}
 use Rattle.jiff.proofs.Family.{same_datetime}
-use Rattle.pool_core.specs.declared.event.End.{End}
-use Rattle.pool_core.specs.declared.event.End.TheVariants.{Exited, Signalled, NotStarted}
-use Rattle.pool_core.specs.declared.event.Event.{Event}
-use Rattle.pool_core.specs.declared.event.Event.TheVariants.{Submit, Start, Ended, Close}
-use Rattle.pool_core.specs.declared.history.Step.{Step}
-use Rattle.pool_core.specs.declared.numbers.JobId.{JobId}
-use Rattle.pool_core.specs.declared.slot.SlotAd.{SlotAd}
 use Rattle.ad_tree.specs.Ad.{Attributes}
-use Rattle.pool_core.specs.PoolValue.{PoolValue}
-use Rattle.pool_core.specs.Reactions.{takes_number, last_cluster_after}
+use Rattle.claim_id.specs.declared.numbers.JobId.{JobId}
+use Rattle.pool_mail.specs.declared.end.End.{End}
+use Rattle.pool_mail.specs.declared.end.End.TheVariants.{Exited, Signalled, NotStarted}
+use Rattle.thin_pool.specs.declared.event.Event.{Event}
+use Rattle.thin_pool.specs.declared.event.Event.TheVariants.{Submit, Start, Ended, Close}
+use Rattle.thin_pool.specs.declared.history.Step.{Step}
+use Rattle.thin_pool.specs.declared.slot.PoolSlot.{PoolSlot}
+use Rattle.thin_pool.specs.PoolValue.{PoolValue}
+use Rattle.thin_pool.specs.Reactions.{takes_number, last_cluster_after}
 use Rattle.pool_master.specs.UserLog.{IsStamp, IsEntry, AreEntries, IsSubmitLines, IsStartLines, IsEndLines, IsLines, ArePrinted, IsLogOf, never_starts, numbers_text, submitted_text, submission_text, last_cluster_with}
 
 -- one event more
-pub prints_on : (slots : List SlotAd) (start last after_it : ℕ) (all rest after : List Step) (step : Step) (text new first : List ℕ) → rest ≡ step ∷ after → IsLines slots last after step.event first → after_it ≡ last_cluster_with last step.event → new ≡ text ++ first → ((more : List ℕ) → ArePrinted slots last rest more → ArePrinted slots start all (text ++ more)) → (more : List ℕ) → ArePrinted slots after_it after more → ArePrinted slots start all (new ++ more)
+pub prints_on : (slots : List PoolSlot) (start last after_it : ℕ) (all rest after : List Step) (step : Step) (text new first : List ℕ) → rest ≡ step ∷ after → IsLines slots last after step.event first → after_it ≡ last_cluster_with last step.event → new ≡ text ++ first → ((more : List ℕ) → ArePrinted slots last rest more → ArePrinted slots start all (text ++ more)) → (more : List ℕ) → ArePrinted slots after_it after more → ArePrinted slots start all (new ++ more)
 prints_on slots start last after_it all rest after step text new first is printed count grown so_far more later =
     rw (grown, append_assoc) (so_far (first ++ more) (rw is (first, more, refl, printed, rw count at later)))
 
-pub prints_all : (slots : List SlotAd) (start last : ℕ) (all rest : List Step) (text : List ℕ) → rest ≡ [] → ((more : List ℕ) → ArePrinted slots last rest more → ArePrinted slots start all (text ++ more)) → ArePrinted slots start all text
+pub prints_all : (slots : List PoolSlot) (start last : ℕ) (all rest : List Step) (text : List ℕ) → rest ≡ [] → ((more : List ℕ) → ArePrinted slots last rest more → ArePrinted slots start all (text ++ more)) → ArePrinted slots start all text
 prints_all slots start last all rest text is so_far = let whole = so_far [] (rw is refl) in rw append-nil at whole
 
 -- one entry of a submission more
@@ -88,13 +88,13 @@ same_end_lines (Exited code) job reading a b x y = same_entry _ job.cluster job.
 same_end_lines (Signalled signal) job reading a b x y = same_entry _ job.cluster job.proc reading _ a b x y
 same_end_lines NotStarted job reading a b x y = same_entry _ job.cluster job.proc reading _ a b x y
 
-same_lines : (slots : List SlotAd) (last : ℕ) (behind : List Step) (ev : Event) (a b : List ℕ) → IsLines slots last behind ev a → IsLines slots last behind ev b → a ≡ b
+same_lines : (slots : List PoolSlot) (last : ℕ) (behind : List Step) (ev : Event) (a b : List ℕ) → IsLines slots last behind ev a → IsLines slots last behind ev b → a ≡ b
 same_lines slots last behind (Submit jobs reading) a b x y = same_submit_lines (last + 1) (length jobs) reading a b x y
 same_lines slots last behind (Start job slot judged reading) a b x y = same_start_lines (never_starts job behind) job _ reading a b x y
 same_lines slots last behind (Ended job end reading) a b x y = same_end_lines end job reading a b x y
 same_lines slots last behind (Close reading none) a b x y = x ∙ sym y
 
-same_printed : (slots : List SlotAd) (last : ℕ) (steps : List Step) (a b : List ℕ) → ArePrinted slots last steps a → ArePrinted slots last steps b → a ≡ b
+same_printed : (slots : List PoolSlot) (last : ℕ) (steps : List Step) (a b : List ℕ) → ArePrinted slots last steps a → ArePrinted slots last steps b → a ≡ b
 same_printed slots last [] a b x y = x ∙ sym y
 same_printed slots last (s ∷ ss) a b x y =
     let first : x.0 ≡ y.0 = same_lines slots last ss s.event x.0 y.0 x.3 y.3 in

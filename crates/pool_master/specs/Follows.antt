@@ -3,8 +3,8 @@ use Rattle.std.specs.Prelude.{◌≡◌, ◌≢◌, ◌⊎◌, ℕ, ◌≤◌, �
 use Rattle.std.specs.Option.{option_map}
 use Rattle.pool_outer.specs.Cause.{Rose, RoseBy}
 use Rattle.pool_outer.specs.declared.spawner.Launch.{Launch}
-use Rattle.pool_core.specs.declared.event.End.{End}
-use Rattle.pool_core.specs.declared.event.End.TheVariants.{NotStarted}
+use Rattle.pool_mail.specs.declared.end.End.{End}
+use Rattle.pool_mail.specs.declared.end.End.TheVariants.{NotStarted}
 use Rattle.pool_master.specs.Runs.{JobRun, runs_on, child_runs, possible_runs, not_started_count, run_launches, child_state, HaveEnded, IsLaunched, EndAsSeen, child_launch}
 use Rattle.pool_master.specs.Seen.{SpawnerSeen}
 

@@ -3,16 +3,16 @@ use Rattle.std.specs.Prelude.{◌≡◌, ◌⊎◌, ◌==◌, ℕ, List, [], ◌
 use Rattle.pool_outer.specs.declared.spawner.ChildState.{ChildState}
 use Rattle.pool_outer.specs.declared.spawner.ChildState.TheVariants as child
 use Rattle.pool_outer.specs.declared.spawner.Launch.{Launch}
-use Rattle.pool_core.specs.declared.answer.Kept.{Kept}
-use Rattle.pool_core.specs.declared.answer.Kept.TheVariants as kept
-use Rattle.pool_core.specs.declared.event.End.{End}
-use Rattle.pool_core.specs.declared.event.End.TheVariants.{Exited, Signalled, NotStarted}
-use Rattle.pool_core.specs.declared.event.Event.{Event}
-use Rattle.pool_core.specs.declared.event.Event.TheVariants.{Submit, Start, Ended, Close}
-use Rattle.pool_core.specs.declared.history.Step.{Step}
-use Rattle.pool_core.specs.declared.numbers.JobId.{JobId}
-use Rattle.pool_core.specs.declared.numbers.SlotId.{SlotId}
-use Rattle.pool_core.specs.Numbers.{same_job}
+use Rattle.claim_id.specs.declared.numbers.JobId.{JobId}
+use Rattle.claim_id.specs.declared.numbers.SlotId.{SlotId}
+use Rattle.pool_mail.specs.declared.end.End.{End}
+use Rattle.pool_mail.specs.declared.end.End.TheVariants.{Exited, Signalled, NotStarted}
+use Rattle.pool_view.specs.Numbers.{same_job}
+use Rattle.thin_pool.specs.declared.answer.Kept.{Kept}
+use Rattle.thin_pool.specs.declared.answer.Kept.TheVariants as kept
+use Rattle.thin_pool.specs.declared.event.Event.{Event}
+use Rattle.thin_pool.specs.declared.event.Event.TheVariants.{Submit, Start, Ended, Close}
+use Rattle.thin_pool.specs.declared.history.Step.{Step}
 
 -- a run of a job on a slot: the Launch answer that began it, and its ending, if it has one
 pub record JobRun : Type 0 where

@@ -3,17 +3,17 @@ use Rattle.std.specs.Prelude.{◌≡◌, ℕ, zero, suc, ◌+◌, nat_lt, List, 
 use Rattle.std.specs.Fmt.{signed_decimal}
 use Rattle.jiff.specs.Words.{civil_nanos, date_text, time_text}
 use Rattle.jiff.specs.declared.civil.DateTime.{DateTime}
-use Rattle.pool_core.specs.declared.event.End.{End}
-use Rattle.pool_core.specs.declared.event.End.TheVariants.{Exited, Signalled, NotStarted}
-use Rattle.pool_core.specs.declared.event.Event.{Event}
-use Rattle.pool_core.specs.declared.event.Event.TheVariants.{Submit, Start, Ended, Close}
-use Rattle.pool_core.specs.declared.history.History.{History}
-use Rattle.pool_core.specs.declared.history.Step.{Step}
-use Rattle.pool_core.specs.declared.numbers.JobId.{JobId}
-use Rattle.pool_core.specs.declared.numbers.SlotId.{SlotId}
-use Rattle.pool_core.specs.declared.slot.SlotAd.{SlotAd}
-use Rattle.pool_core.specs.PoolValue.{PoolValue, slot_at}
-use Rattle.pool_core.specs.Reactions.{last_cluster_after}
+use Rattle.claim_id.specs.declared.numbers.JobId.{JobId}
+use Rattle.claim_id.specs.declared.numbers.SlotId.{SlotId}
+use Rattle.pool_mail.specs.declared.end.End.{End}
+use Rattle.pool_mail.specs.declared.end.End.TheVariants.{Exited, Signalled, NotStarted}
+use Rattle.thin_pool.specs.declared.event.Event.{Event}
+use Rattle.thin_pool.specs.declared.event.Event.TheVariants.{Submit, Start, Ended, Close}
+use Rattle.thin_pool.specs.declared.history.History.{History}
+use Rattle.thin_pool.specs.declared.history.Step.{Step}
+use Rattle.thin_pool.specs.declared.slot.PoolSlot.{PoolSlot}
+use Rattle.thin_pool.specs.PoolValue.{PoolValue, slot_at}
+use Rattle.thin_pool.specs.Reactions.{last_cluster_after}
 use Rattle.pool_master.specs.Runs.{end_after, is_not_started}
 
 abbrev pub nanos_per_second : ℤ
@@ -65,11 +65,11 @@ abbrev pub held_text : List ℕ
 held_text = codes "Job was held.\n\tFailed to start\n...\n"
 
 -- the name of a slot
-abbrev pub name_in : Option SlotAd → List ℕ
+abbrev pub name_in : Option PoolSlot → List ℕ
 name_in None = []
 name_in (Some s) = s.name
 
-abbrev pub slot_name_at : List SlotAd → SlotId → List ℕ
+abbrev pub slot_name_at : List PoolSlot → SlotId → List ℕ
 slot_name_at slots slot = name_in (slot_at slot slots)
 
 -- the job's run that is running before these events ends as one that didn't start
@@ -105,7 +105,7 @@ IsEndLines NotStarted job reading text =
 
 -- what an event prints in a pool of these slots, where the last cluster before it has that number
 -- and these steps come after it
-abbrev pub IsLines : List SlotAd → ℕ → List Step → Event → List ℕ → Type 0
+abbrev pub IsLines : List PoolSlot → ℕ → List Step → Event → List ℕ → Type 0
 IsLines slots last after (Submit jobs reading) text =
     IsSubmitLines (last + 1) (length jobs) reading text
 IsLines slots last after (Start job slot judged reading) text =
@@ -121,7 +121,7 @@ last_cluster_with last (Ended job end reading) = last
 last_cluster_with last (Close reading none) = last
 
 -- what these events print, one after the other
-abbrev pub ArePrinted : List SlotAd → ℕ → List Step → List ℕ → Type 0
+abbrev pub ArePrinted : List PoolSlot → ℕ → List Step → List ℕ → Type 0
 ArePrinted slots last [] text = text ≡ []
 ArePrinted slots last (s ∷ ss) text = (first rest : List ℕ) × (text ≡ first ++ rest)
     × IsLines slots last ss s.event first

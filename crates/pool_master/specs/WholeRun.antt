@@ -1,13 +1,13 @@
 -- What a whole run leaves.
 use Rattle.std.specs.Prelude.{◌≡◌, ◌⊎◌, ℕ, List, [], ◌∷◌, ◌++◌, take, Bool, true, false, Option, Some, None}
 use Rattle.pool_outer.specs.Cause.{Rose}
-use Rattle.pool_core.specs.declared.history.History.{History}
-use Rattle.pool_core.specs.declared.history.Step.{Step}
-use Rattle.pool_core.specs.Histories.{LeadsTo, ends_in_close}
-use Rattle.pool_core.specs.Moving.{EachMoves}
-use Rattle.pool_core.specs.PoolValue.{PoolValue}
-use Rattle.pool_core.specs.Reactions.{opening_pool, pool_after}
-use Rattle.pool_core.specs.Jobs.{has_unfinished}
+use Rattle.thin_pool.specs.declared.history.History.{History}
+use Rattle.thin_pool.specs.declared.history.Step.{Step}
+use Rattle.thin_pool.specs.Histories.{LeadsTo, ends_in_close}
+use Rattle.thin_pool.specs.Moving.{EachMoves}
+use Rattle.thin_pool.specs.PoolValue.{PoolValue}
+use Rattle.thin_pool.specs.Reactions.{opening_pool, pool_after}
+use Rattle.thin_pool.specs.Jobs.{has_unfinished}
 use Rattle.pool_input.specs.declared.status.Status.{Status}
 use Rattle.pool_input.specs.declared.status.Status.TheVariants as status
 use Rattle.pool_input.specs.Readings.{AreRead}

@@ -1,7 +1,7 @@
 //! What holds of every history.
 
 ghost use Rattle.std.specs.Prelude.{◌≡◌, ℕ, List};
-ghost use Rattle.pool_core.specs.declared.history.History.{History};
+ghost use Rattle.thin_pool.specs.declared.history.History.{History};
 ghost use Rattle.pool_master.specs.UserLog.{IsUserLog};
 
 /// A history has one user log.

@@ -1,12 +1,12 @@
 ghost use Rattle.std.specs.Prelude.{◌≡◌, ◌≢◌, ◌≤◌, ◌<◌, ◌+◌, ◌++◌, ◌∷◌, [], ℕ, true, false, None, Some, All, length, slice_get, IfOk, OnOk, OnErr, IsTrue, is_ok, ◌↔◌};
 ghost use Rattle.pool_outer.specs.Cause.{Rose};
-ghost use Rattle.pool_core.specs.declared.answer.Kept.TheVariants as kept;
-ghost use Rattle.pool_core.specs.declared.event.End.TheVariants.{NotStarted};
-ghost use Rattle.pool_core.specs.declared.event.Event.TheVariants.{Start, Close};
-ghost use Rattle.pool_core.specs.Answers.{kept_of};
-ghost use Rattle.pool_core.specs.Histories.{submissions_in};
-ghost use Rattle.pool_core.specs.Reactions.{refusal, pool_after, answer_to};
-ghost use Rattle.pool_core.specs.Resting.{IsResting, idle_count};
+ghost use Rattle.pool_mail.specs.declared.end.End.TheVariants.{NotStarted};
+ghost use Rattle.thin_pool.specs.declared.answer.Kept.TheVariants as kept;
+ghost use Rattle.thin_pool.specs.declared.event.Event.TheVariants.{Start, Close};
+ghost use Rattle.thin_pool.specs.Answers.{kept_of};
+ghost use Rattle.thin_pool.specs.Histories.{submissions_in};
+ghost use Rattle.thin_pool.specs.Reactions.{refusal, pool_after, answer_to};
+ghost use Rattle.thin_pool.specs.Resting.{IsResting, idle_count};
 ghost use Rattle.pool_input.specs.Input.{ArePlaced};
 ghost use Rattle.pool_input.specs.Readings.{AreRead, IsInCalendar};
 ghost use Rattle.pool_master.specs.Runs.{child_launch, child_state, runs_in};
@@ -16,11 +16,12 @@ ghost use Rattle.pool_master.specs.Follows.{EachGoesOn, IsBetween, RunsChild, Ru
 use crate::pause::Pause;
 use ad_eval::NoMatch;
 use ad_value::Memory;
-use pool_core::laws::{events_keep_slots, runs_end_in_rest, starts_are_placed};
-use pool_core::{Answer, Course, End, Event, Next, Pair};
+use pool_mail::End;
 use pool_outer::{ChildState, Clock, Launch, SpawnError, Spawner};
 use std::alloc::Global;
 use std::sync::Wait;
+use thin_pool::laws::{events_keep_slots, runs_end_in_rest, starts_are_placed};
+use thin_pool::{Answer, Course, Event, Next, Pair};
 
 /// Runs idle jobs that match a slot, one after the other, and closes the pool once none does: each
 /// when its turn comes, in order, on the first slot that it matches then, and again from the first

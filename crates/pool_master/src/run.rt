@@ -1,8 +1,8 @@
 ghost use Rattle.std.specs.Prelude.{◌≡◌, ◌≢◌, ◌≤◌, ◌⊎◌, ◌↔◌, [], ℕ, List, Bool, true, false, None, Some, All, length, slice_get};
 ghost use Rattle.pool_outer.specs.Cause.{Rose, RoseBy};
 ghost use Rattle.pool_outer.specs.Files.{SameFiles};
+ghost use Rattle.thin_pool.specs.Histories.{submissions_in};
 ghost use Rattle.pool_input.specs.Input.{IsRefusedInput, IsRefusedOf, HasSubmitted, OfInputFrom, OfFilesFrom};
-ghost use Rattle.pool_core.specs.Histories.{submissions_in};
 ghost use Rattle.pool_input.specs.Readings.{AreRead, AreReadings};
 ghost use Rattle.pool_input.specs.Status.{stage_of, IsBeforePool, IsRefusal, IsAfterFiles, IsToday};
 ghost use Rattle.pool_input.specs.Words.{IsNoRun, texts};
@@ -14,12 +14,12 @@ ghost use Rattle.pool_master.specs.WholeRun.{IsAllWritten, IsClosed, IsReplay, I
 use crate::output::write_all;
 use crate::play::play;
 use crate::user_log::log_text;
-use pool_core::{Course, Event, History, Pool, StepList};
 use pool_input::{Named, Status, files_in, load};
 use pool_outer::{Clock, Gate, Sink, Spawner, Store};
 use std::alloc::Global;
 use std::sync::Wait;
 use std::thread::Threads;
+use thin_pool::{Course, Event, History, Pool, StepList};
 
 /// How many machines a pool may have; machine m launches on spawner m.
 pub const MACHINES: usize = 64;

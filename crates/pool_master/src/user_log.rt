@@ -1,16 +1,18 @@
 ghost use Rattle.std.specs.Prelude.{◌≡◌, ◌≤◌, ◌<◌, ◌^◌, ◌+◌, ◌++◌, List, ℕ, IfOk, All, length, codes, string_bytes};
-ghost use Rattle.pool_core.specs.Events.{reading_of};
-ghost use Rattle.pool_core.specs.PoolValue.{slot_at};
-ghost use Rattle.pool_core.specs.Reactions.{takes_number};
+ghost use Rattle.thin_pool.specs.Events.{reading_of};
+ghost use Rattle.thin_pool.specs.PoolValue.{slot_at};
+ghost use Rattle.thin_pool.specs.Reactions.{takes_number};
 ghost use Rattle.pool_input.specs.Readings.{IsInCalendar, AreReadings};
 ghost use Rattle.pool_master.specs.UserLog.{IsStamp, IsEntry, AreEntries, IsSubmitLines, IsStartLines, IsEndLines, IsLines, ArePrinted, IsUserLog, never_starts, last_cluster_with, name_in, slot_name_at, three_digits, numbers_text, submitted_text, held_text};
 
 use ad_tree::AdList;
 use ad_value::{Memory, Text};
+use claim_id::{JobId, SlotId};
 use jiff::Timestamp;
 use jiff::tz::Offset;
-use pool_core::{End, Event, History, JobId, LAST_CLUSTER_WITHOUT_JOBS, SlotAd, SlotId, Step};
+use pool_mail::End;
 use std::alloc::Global;
+use thin_pool::{Event, History, LAST_CLUSTER_WITHOUT_JOBS, PoolSlot, Step};
 
 const SUBMITTED: &str = "Job submitted from host: <pool>\n...\n";
 
@@ -29,7 +31,7 @@ pub fn log_text(alloc: Global, history: &History) -> Result<Text, Memory>
 }
 
 // What these events print, in a pool of these slots in which nothing was submitted before.
-fn events_text(alloc: Global, slots: &[SlotAd], steps: &[Step]) -> Result<String, Memory>
+fn events_text(alloc: Global, slots: &[PoolSlot], steps: &[Step]) -> Result<String, Memory>
     requires { AreReadings steps.now }
     ensures { IfOk result (λ t. ArePrinted slots.now 0 steps.now (string_bytes t)) }
 {
@@ -85,7 +87,7 @@ fn never_starts(job: JobId, steps: &[Step]) -> bool
 // What an event prints.
 fn lines(
     alloc: Global,
-    slots: &[SlotAd],
+    slots: &[PoolSlot],
     last: usize,
     after: &[Step],
     event: &Event,
@@ -111,7 +113,7 @@ fn lines(
 }
 
 // The name of a slot.
-fn slot_name_at(slots: &[SlotAd], id: SlotId) -> &str
+fn slot_name_at(slots: &[PoolSlot], id: SlotId) -> &str
     ensures { result.now ≡ slot_name_at slots.now id }
 {
     for slot in slots {

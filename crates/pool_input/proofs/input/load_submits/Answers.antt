@@ -1,7 +1,7 @@
 use Rattle.std.proofs.Common.{◌≡◌, ◌∙◌, None, sym}
 use Rattle.pool_config.specs.Configuration.{configuration_of}
-use Rattle.pool_core.specs.Histories.{submissions_in}
-use Rattle.pool_core.specs.Reactions.{opening_pool}
+use Rattle.thin_pool.specs.Histories.{submissions_in}
+use Rattle.thin_pool.specs.Reactions.{opening_pool}
 use Rattle.pool_input.specs.Input.{pool_slots}
 use Rattle.pool_input.specs.Words.{texts}
 use Rattle.pool_input.proofs.Loading.{submits_with, stops_with, submitted_of, opening_rests}

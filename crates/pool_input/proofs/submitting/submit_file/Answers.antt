@@ -1,7 +1,7 @@
 use Rattle.std.proofs.Common.{◌≡◌, ◌∙◌, ℕ, Err, ap, sym, subst}
 use Rattle.submit_file.specs.Errors.{UnlessMemory as UnlessNoMemory}
 use Rattle.submit_file.specs.SubmittedJobs.{SubmittedJobs}
-use Rattle.pool_core.specs.Reactions.{next_cluster}
+use Rattle.thin_pool.specs.Reactions.{next_cluster}
 use Rattle.pool_input.proofs.FileFaults.{of_submit, submit_refused, no_text_submit, no_disk_submit}
 use Rattle.pool_input.proofs.OneFile.{asks_with, takes_of, refused_of, of_pool, no_disk}
 use Rattle.pool_input.proofs.submitting.submit_file.Goals as goal

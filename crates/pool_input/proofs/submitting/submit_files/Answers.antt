@@ -1,5 +1,5 @@
 use Rattle.std.proofs.Common.{◌≡◌, ◌∙◌, ◌∷◌, [], List, Option, Some, string_bytes, ℕ, true, sym, ap, subst, rules, arith}
-use Rattle.pool_core.specs.PoolValue.{PoolValue}
+use Rattle.thin_pool.specs.PoolValue.{PoolValue}
 use Rattle.pool_input.specs.Faults.{UnlessOut}
 use Rattle.pool_input.specs.Submissions.{IsSubmitRefused}
 use Rattle.pool_input.specs.Words.{texts}

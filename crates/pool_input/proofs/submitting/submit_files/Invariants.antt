@@ -1,8 +1,8 @@
 -- What was submitted so far, and whatever the other files submit, is what all of them submit.
 use Rattle.std.proofs.Common.{◌≡◌, ◌≤◌, true, length}
-use Rattle.pool_core.specs.Histories.{submissions_in}
-use Rattle.pool_core.specs.Resting.{IsResting}
 use Rattle.pool_outer.specs.Files.{SameFiles}
+use Rattle.thin_pool.specs.Histories.{submissions_in}
+use Rattle.thin_pool.specs.Resting.{IsResting}
 use Rattle.pool_input.specs.Readings.{AreRead}
 use Rattle.pool_input.specs.Submissions.{submit_steps}
 use Rattle.pool_input.specs.Words.{texts}

@@ -1,7 +1,7 @@
 -- Nothing runs, and the spawners go on following the history.
 use Rattle.std.proofs.Common.{◌≡◌, ◌≤◌}
-use Rattle.pool_core.specs.Histories.{submissions_in}
-use Rattle.pool_core.specs.Resting.{IsResting, idle_count}
+use Rattle.thin_pool.specs.Histories.{submissions_in}
+use Rattle.thin_pool.specs.Resting.{IsResting, idle_count}
 use Rattle.pool_input.specs.Readings.{AreRead}
 use Rattle.pool_master.specs.Follows.{EachGoesOn, IsBetween, StayUntouched}
 use Rattle.pool_master.specs.Runs.{runs_in}

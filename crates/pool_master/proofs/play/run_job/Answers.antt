@@ -1,9 +1,9 @@
 -- A start that the pool accepts, the child that it launches, and the ending that it is seen to have.
 use Rattle.std.proofs.Common.{◌≡◌, ◌<◌, ◌∙◌, None, length, ap, sym, subst}
-use Rattle.pool_core.specs.CourseValue.{CourseValue}
-use Rattle.pool_core.specs.PoolValue.{PoolValue}
-use Rattle.pool_core.specs.declared.event.Event.TheVariants.{Ended}
-use Rattle.pool_core.specs.Reactions.{refusal}
+use Rattle.thin_pool.specs.CourseValue.{CourseValue}
+use Rattle.thin_pool.specs.PoolValue.{PoolValue}
+use Rattle.thin_pool.specs.declared.event.Event.TheVariants.{Ended}
+use Rattle.thin_pool.specs.Reactions.{refusal}
 use Rattle.pool_master.proofs.Playing.{start_submits, end_submits, start_read, end_read, started, has_run, machine_below}
 use Rattle.pool_master.proofs.Spawners.{goes_on, between_again, stays_untouched, follows_ended, follows_open, follows_no_child}
 use Rattle.pool_master.proofs.RunLists.{run_with}

@@ -1,7 +1,7 @@
 use Rattle.std.proofs.Common.{◌≡◌, ◌≢◌, ◌∙◌, true, false, [], Some, refl, sym, ap, arith}
-use Rattle.pool_core.specs.PoolValue.{PoolValue}
-use Rattle.pool_core.specs.Histories.{submissions_in}
-use Rattle.pool_core.specs.Reactions.{opening_pool}
+use Rattle.thin_pool.specs.PoolValue.{PoolValue}
+use Rattle.thin_pool.specs.Histories.{submissions_in}
+use Rattle.thin_pool.specs.Reactions.{opening_pool}
 use Rattle.pool_master.specs.Runs.{runs_in}
 use Rattle.pool_master.proofs.RunLists.{submits_no_runs}
 use Rattle.pool_master.proofs.Spawners.{all_at, between_none}

@@ -1,5 +1,5 @@
 use Rattle.std.proofs.Common.{◌≡◌, ◌∷◌, [], ◌≤◌, suc, length, string_bytes, rules, arith, ap}
-use Rattle.pool_core.specs.Events.{reading_of}
+use Rattle.thin_pool.specs.Events.{reading_of}
 use Rattle.pool_input.specs.Readings.{IsInCalendar}
 use Rattle.pool_master.specs.UserLog.{IsLines}
 use Rattle.pool_master.proofs.UserLogs.{prints_on, prints_all, none_left, all_behind, last_cluster_grows}

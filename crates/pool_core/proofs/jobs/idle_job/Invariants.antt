@@ -1,7 +1,0 @@
--- The place counts from here on.
-use Rattle.std.proofs.Common.{◌≡◌, slice_get}
-use Rattle.pool_core.specs.Jobs.{idle_jobs}
-use Rattle.pool_core.proofs.jobs.idle_job.Given as goal
-
-abbrev pub invariant-loop-id : goal.invariant-loop-id
-invariant-loop-id l = slice_get (idle_jobs l.id-iterator) l.left ≡ slice_get (idle_jobs l.jobs.entries) l.place

@@ -1,5 +1,0 @@
-use Rattle.pool_core.proofs.Growing.{leads_on}
-use Rattle.pool_core.proofs.laws.histories_grow.Goals as goal
-
-pub returns : goal.returns
-returns c = λ p q r list s. leads_on p list q s r

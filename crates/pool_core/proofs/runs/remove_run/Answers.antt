@@ -1,6 +1,0 @@
-use Rattle.std.proofs.Common.{◌∙◌}
-use Rattle.pool_core.proofs.Entries.{remove_entry-without_run}
-use Rattle.pool_core.proofs.runs.remove_run.Goals as goal
-
-pub returns : goal.returns
-returns c = c.shift_remove.ensures.entries ∙ remove_entry-without_run c.args.slot c.args.runs.now.entries

@@ -1,9 +1,0 @@
--- Answers as a history keeps them.
-use Rattle.pool_core.specs.declared.answer.Answer.{Answer}
-use Rattle.pool_core.specs.declared.answer.Answer.TheVariants as answer
-use Rattle.pool_core.specs.declared.answer.Kept.{Kept}
-use Rattle.pool_core.specs.declared.answer.Kept.TheVariants as kept
-
-abbrev pub kept_of : Answer → Kept
-kept_of answer.Done = kept.Done
-kept_of (answer.Launch what) = kept.Launch what

@@ -1,0 +1,10 @@
+pub mod Adding
+pub mod Consistent
+pub mod Entries
+pub mod Growing
+pub mod Moving
+pub mod Resting
+pub mod Same
+pub mod Showing
+pub mod Sound
+pub mod Tables

@@ -1,0 +1,13 @@
+pub mod Answers
+pub mod Events
+pub mod Sameness
+pub mod PoolValue
+pub mod Jobs
+pub mod Reactions
+pub mod Histories
+pub mod CourseValue
+pub mod View
+pub mod Sound
+pub mod Pairs
+pub mod Resting
+pub mod Moving
