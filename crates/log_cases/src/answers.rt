@@ -1,3 +1,4 @@
+use crate::asking::answer_asking;
 use crate::boots::{answer_boot_line, answer_boots};
 use crate::lines::answer_line;
 use crate::operations::answer_print;
@@ -20,6 +21,7 @@ fn answer(alloc: Global, case: Case<'_>, out: &mut String) -> Result<(), CaseErr
         "line" => answer_line(alloc, case, out),
         "print" => answer_print(alloc, case, out),
         "apply" => answer_apply(alloc, case, out),
+        "asking" => answer_asking(alloc, case, out),
         "kind" => answer_kind(alloc, case, out),
         "read" => answer_read(alloc, case, out),
         "cuts" => answer_cuts(alloc, case, out),

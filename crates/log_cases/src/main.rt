@@ -1,11 +1,13 @@
 //! Answers cases of the queue log: a case a line on standard input, an answer a line on standard
 //! output.
 //!
-//! `read BYTES`, `line BYTES NUMBER`, `print OP ..`, `apply COUNT KEYAD .. OP ..`, `cuts BYTES`,
-//! `kind AD`, `boots BYTES`, `boot-line NUMBER`: README.md says what each answers.
+//! `read BYTES`, `line BYTES NUMBER`, `print OP ..`, `apply COUNT KEYAD .. OP ..`,
+//! `asking AD COUNT KEYAD .. OP ..`, `cuts BYTES`, `kind AD`, `boots BYTES`, `boot-line NUMBER`:
+//! README.md says what each answers.
 #![tactic(auto)]
 
 mod answers;
+mod asking;
 mod boots;
 mod lines;
 mod operations;

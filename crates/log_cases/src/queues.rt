@@ -15,7 +15,23 @@ pub(crate) fn answer_apply(
     out: &mut String,
 ) -> Result<(), CaseError> {
     let fields = case.all_fields(alloc)?;
-    let Some((count, rest)) = fields.as_slice().split_first() else {
+    match changed_queue(alloc, case, &fields)? {
+        Ok(queue) => {
+            out.push_str("ok")?;
+            write_queue(alloc, &queue, out)?;
+        }
+        Err(error) => write_cause(error, out)?,
+    }
+    Ok(())
+}
+
+/// The queue that operations make, or why they can't be done: `COUNT KEYAD .. OP ..`.
+pub(crate) fn changed_queue(
+    alloc: Global,
+    case: Case<'_>,
+    fields: &[&str],
+) -> Result<Result<Queue, ApplyError>, CaseError> {
+    let Some((count, rest)) = fields.split_first() else {
         return Err(CaseError::Fields { line: case.line });
     };
     let count = case.natural(count)? as usize;
@@ -26,16 +42,19 @@ pub(crate) fn answer_apply(
     let mut queue = queue_of(alloc, case, ads)?;
     let tx = tx_of(alloc, case, ops)?;
     match queue.apply(alloc, &tx) {
-        Ok(()) => {
-            out.push_str("ok")?;
-            write_queue(alloc, &queue, out)?;
-        }
-        Err(ApplyError::NoKey { op }) => write!(out, "NoKey\t{op}")?,
-        Err(ApplyError::KeyThere { op }) => write!(out, "KeyThere\t{op}")?,
-        Err(ApplyError::Full { op }) => write!(out, "Full\t{op}")?,
-        Err(ApplyError::Memory) => return Err(CaseError::Memory),
+        Ok(()) => Ok(Ok(queue)),
+        Err(error) => Ok(Err(error)),
     }
-    Ok(())
+}
+
+/// Appends why operations can't be done.
+pub(crate) fn write_cause(error: ApplyError, out: &mut String) -> Result<(), AllocError> {
+    match error {
+        ApplyError::NoKey { op } => write!(out, "NoKey\t{op}"),
+        ApplyError::KeyThere { op } => write!(out, "KeyThere\t{op}"),
+        ApplyError::Full { op } => write!(out, "Full\t{op}"),
+        ApplyError::Memory => Err(AllocError),
+    }
 }
 
 // The queue of these fields, each a key and its ad.
@@ -81,7 +100,8 @@ fn set_op(alloc: Global, key: Key, name: &str, expr: &Expr) -> Result<Op, CaseEr
     }
 }
 
-fn ad_of(alloc: Global, case: Case<'_>, text: &str) -> Result<Ad, CaseError> {
+/// The ad of a text.
+pub(crate) fn ad_of(alloc: Global, case: Case<'_>, text: &str) -> Result<Ad, CaseError> {
     match parse_ad(alloc, text) {
         Ok(ad) => Ok(ad),
         Err(AdError::Memory) => Err(CaseError::Memory),
