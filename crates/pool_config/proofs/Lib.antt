@@ -8,3 +8,4 @@ pub mod Readings
 pub mod SlotLemmas
 pub mod Times
 pub mod UserLemmas
+pub mod Owners

@@ -1,6 +1,7 @@
 //! What holds of every configuration.
 
-ghost use Rattle.std.specs.Prelude.{◌≡◌, ◌≢◌, ◌++◌, ℕ, List, All, length, Ok, Err};
+ghost use Rattle.std.specs.Prelude.{◌≡◌, ◌≢◌, ◌++◌, ℕ, List, All, length, Ok, Err, true};
+ghost use Rattle.ad_token.specs.Names.{is_name};
 ghost use Rattle.line_text.specs.Lines.{logical_lines};
 ghost use Rattle.pool_config.specs.declared.error.ConfigError.{ConfigError};
 ghost use Rattle.pool_config.specs.declared.error.ConfigError.TheVariants as error;
@@ -28,6 +29,12 @@ pub fn first_bad_line_is_refused()
 pub fn last_time_counts()
     ensures { (text : List ℕ) (c : Configuration) (i : Interval) → IsConfiguration text (Ok c)
         → CountsLast (logical_lines text) i (seconds_of i plain_configuration) (seconds_of i c) }
+{}
+
+/// The owner is a name.
+pub fn owner_is_a_name()
+    ensures { (text : List ℕ) (c : Configuration) → IsConfiguration text (Ok c)
+        → is_name c.owner ≡ true }
 {}
 
 /// There are as many slots as the machines say.
