@@ -1,16 +1,14 @@
 -- What submit files submit, file by file.
-use Rattle.std.proofs.Common.{◌≡◌, ◌∙◌, ℕ, String, Global, length, List, [], ◌∷◌, ◌++◌, map, Bool, true, Option, Some, None, Err, Ok, inl, inr, refl, sym, ap, subst, arith, append_assoc}
+use Rattle.std.proofs.Common.{◌≡◌, ◌∙◌, ℕ, String, Global, length, List, [], ◌∷◌, ◌++◌, Bool, true, Option, Some, None, Ok, inl, inr, refl, sym, ap, subst, arith, append_assoc}
 use Rattle.std.proofs.lemmas.List.{append-nil, map-append}
 use Rattle.std.proofs.lemmas.List.Elements.{filter_map-append}
-use Rattle.std.specs.List.{filter_map}
 use Rattle.ad_tree.specs.Ad.{Attributes}
 use Rattle.pool_outer.specs.Files.{Contents}
-use Rattle.thin_pool.specs.declared.event.Event.TheVariants.{Submit}
 use Rattle.thin_pool.specs.declared.history.Step.{Step}
 use Rattle.thin_pool.specs.CourseValue.{CourseValue}
-use Rattle.thin_pool.specs.Histories.{submissions_in, submission_in}
+use Rattle.thin_pool.specs.Histories.{submissions_in}
 use Rattle.thin_pool.specs.PoolValue.{PoolValue}
-use Rattle.thin_pool.specs.Reactions.{next_cluster, pool_after, refusal}
+use Rattle.thin_pool.specs.Reactions.{next_cluster}
 use Rattle.thin_pool.specs.Resting.{IsResting}
 use Rattle.pool_input.specs.declared.fault.Fault.{Fault}
 use Rattle.pool_input.specs.declared.fault.Fault.TheVariants as fault

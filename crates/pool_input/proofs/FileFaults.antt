@@ -1,5 +1,5 @@
 -- Why files can't be had: each cause is one of files, and one of the refusals that are defined.
-use Rattle.std.proofs.Common.{◌≡◌, ◌∙◌, ◌⊎◌, inl, inr, ℕ, ◌<◌, ◌≤◌, List, length, Option, Some, None, Ok, Err, refl, sym, ap, subst}
+use Rattle.std.proofs.Common.{◌≡◌, inl, inr, ℕ, ◌<◌, ◌≤◌, List, length, Option, Some, None, Err, refl, sym, subst}
 use Rattle.std.specs.Option.{option_map}
 use Rattle.std.specs.Str.{IsUtf8}
 use Rattle.pool_outer.specs.declared.limit.Which.{Which}
@@ -20,9 +20,8 @@ use Rattle.pool_input.specs.declared.files.ReadError.{ReadError}
 use Rattle.pool_input.specs.declared.files.ReadError.TheVariants as read
 use Rattle.pool_input.specs.declared.files.TheConstants.{MOST_BYTES}
 use Rattle.pool_input.specs.declared.status.Kind.TheVariants as kind
-use Rattle.pool_input.specs.declared.status.Status.{Status}
 use Rattle.pool_input.specs.declared.status.Status.TheVariants as status
-use Rattle.pool_input.specs.Faults.{read_fault, config_fault, submit_fault, fault_status, UnlessOut, UnlessFault, IsStatus, IsFileFault}
+use Rattle.pool_input.specs.Faults.{read_fault, config_fault, submit_fault, UnlessOut, IsFileFault}
 use Rattle.pool_input.specs.Input.{IsConfigRefused, refused, no_text}
 use Rattle.pool_input.specs.Status.{stage_of, IsAtFiles}
 use Rattle.pool_input.specs.Submissions as files

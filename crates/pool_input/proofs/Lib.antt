@@ -5,3 +5,4 @@ pub mod FileFaults
 pub mod Pieces
 pub mod FileByFile
 pub mod Slots
+pub mod OneStatus

@@ -1,5 +1,5 @@
 -- One submit file: what is submitted of it, or why it is refused.
-use Rattle.std.proofs.Common.{◌≡◌, ◌∙◌, ◌⊎◌, inl, inr, ℕ, List, [], ◌∷◌, ◌++◌, Bool, true, Option, Some, None, Result, Ok, Err, IfErr, OnOk, refl, sym, subst}
+use Rattle.std.proofs.Common.{◌≡◌, ◌∙◌, ◌⊎◌, inl, inr, ℕ, List, [], ◌∷◌, ◌++◌, Bool, true, Option, Some, None, Result, Ok, Err, IfErr, OnOk, sym, subst}
 use Rattle.ad_tree.specs.Ad.{Attributes}
 use Rattle.pool_outer.specs.Cause.{Rose}
 use Rattle.pool_outer.specs.declared.limit.Which.TheVariants as which

@@ -75,6 +75,10 @@ UnlessFault P (status.Limit which) = P (status.Limit which)
 abbrev pub IsStatus : Status → Status → Type 0
 IsStatus wanted s = (s ≡ wanted) ⊎ (s ≡ status.Memory)
 
+-- it is the status, unless the disk failed or memory ran out
+abbrev pub IsStatusUnlessFault : Status → Status → Type 0
+IsStatusUnlessFault wanted s = (s ≡ wanted) ⊎ ((s ≡ status.Memory) ⊎ (s ≡ status.DiskFault))
+
 -- of the limits, it is one of those of files
 abbrev pub IsFileFault : Fault → Type 0
 IsFileFault (Refused line kind) = Unit {0}

@@ -1,6 +1,5 @@
 -- What a run's files are, and when one is refused.
-use Rattle.std.specs.Prelude.{◌≡◌, ◌<◌, ℕ, List, [], ◌∷◌, All, map, Option, Some, None, Ok, Err}
-use Rattle.ad_tree.specs.Ad.{Attributes}
+use Rattle.std.specs.Prelude.{◌≡◌, ◌<◌, ℕ, List, All, map, Option, Some, None, Ok, Err}
 use Rattle.pool_outer.specs.Files.{Contents}
 use Rattle.pool_config.specs.Configuration.{Configuration}
 use Rattle.pool_config.specs.declared.config.TheConstants.{MAX_MACHINES}
@@ -18,7 +17,7 @@ use Rattle.thin_pool.specs.Resting.{IsResting}
 use Rattle.pool_input.specs.declared.fault.Fault.{Fault}
 use Rattle.pool_input.specs.declared.status.Status.{Status}
 use Rattle.pool_input.specs.Faults.{config_fault, fault_status}
-use Rattle.pool_input.specs.Readings.{AreRead}
+use Rattle.pool_input.specs.Readings.{AreRead, IsAnyReading}
 use Rattle.pool_input.specs.Submissions.{IsTextOf, HasNoText, Submits, StopsAt, submit_steps}
 use Rattle.pool_input.specs.Words.{IsRun}
 
@@ -58,6 +57,10 @@ pub data IsRefusedOf (allows : ℕ → Type 0) (file : Contents) (config : List 
       → StopsAt allows file c.owner submits (opening_pool (pool_slots c)) s
       → IsRefusedOf allows file config submits s
 
+-- one of the files is refused by what they hold, whatever the clock reads
+abbrev pub IsRefusedByFiles : Contents → List ℕ → List (List ℕ) → Status → Type 0
+IsRefusedByFiles file config submits s = IsRefusedOf IsAnyReading file config submits s
+
 -- the same, of the files that the words name
 pub record IsRefusedInput (allows : ℕ → Type 0) (file : Contents) (words : List (List ℕ))
     (s : Status) : Type 0 where
@@ -65,6 +68,9 @@ pub record IsRefusedInput (allows : ℕ → Type 0) (file : Contents) (words : L
   pub submits : List (List ℕ)
   pub words_are : IsRun words config submits
   pub refused : IsRefusedOf allows file config submits s
+
+abbrev pub IsInputRefused : Contents → List (List ℕ) → Status → Type 0
+IsInputRefused file words s = IsRefusedInput IsAnyReading file words s
 
 -- the pool and its history are those of the files that the words name
 pub record IsOfInput (allows : ℕ → Type 0) (file : Contents) (words : List (List ℕ))

@@ -8,6 +8,9 @@ use Rattle.thin_pool.specs.Events.{reading_of}
 abbrev pub IsInCalendar : ℕ → Type 0
 IsInCalendar t = t ≤ LAST_READING
 
+abbrev pub IsAnyReading : ℕ → Type 0
+IsAnyReading t = Unit {0}
+
 abbrev pub AreReadings : List Step → Type 0
 AreReadings list = All (λ s. IsInCalendar (reading_of s.event)) list
 

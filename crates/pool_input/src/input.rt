@@ -1,4 +1,4 @@
-ghost use Rattle.std.specs.Prelude.{◌≡◌, ◌≤◌, true, [], None, IfOk, IfErr, MatchOption};
+ghost use Rattle.std.specs.Prelude.{◌≡◌, ◌≤◌, true, [], None, IfOk, IfErr, IsErrAnd, MatchOption};
 ghost use Rattle.std.specs.Str.{IsUtf8};
 ghost use Rattle.pool_outer.specs.Cause.{Rose};
 ghost use Rattle.pool_outer.specs.Files.{SameFiles};
@@ -6,8 +6,9 @@ ghost use Rattle.pool_config.specs.Configuration.{configuration_of, HaveSlots, I
 ghost use Rattle.pool_config.specs.declared.config.TheConstants.{MAX_MACHINES};
 ghost use Rattle.thin_pool.specs.Histories.{submissions_in};
 ghost use Rattle.thin_pool.specs.Reactions.{opening_pool};
-ghost use Rattle.pool_input.specs.Faults.{IsFileFault, UnlessFault, UnlessOut};
-ghost use Rattle.pool_input.specs.Input.{HasSubmitted, IsConfigFile, IsConfigRefused, IsOfFiles, IsRefusedOf, ArePlaced, pool_slot, pool_slots};
+ghost use Rattle.pool_input.specs.Faults.{IsFileFault, IsStatusUnlessFault, UnlessFault, UnlessOut};
+ghost use Rattle.pool_input.specs.Input.{HasSubmitted, IsConfigFile, IsConfigRefused, IsOfFiles, IsRefusedByFiles, IsRefusedOf, ArePlaced, pool_slot, pool_slots};
+ghost use Rattle.pool_input.specs.declared.status.Status.{Status};
 ghost use Rattle.pool_input.specs.Status.{stage_of, IsAtFiles};
 ghost use Rattle.pool_input.specs.Submissions.{HasNoText, IsTextOf, StopsAt, Submits};
 ghost use Rattle.pool_input.specs.Words.{texts};
@@ -40,6 +41,9 @@ pub fn load<D: Store, C: Clock>(
     ensures refused { D.tells store.old ≡ true
         → IfErr result (UnlessFault (IsRefusedOf (C.allows clock.now)
         (D.file store.old) named.entry.config.now (texts named.entry.submits.now))) }
+    ensures refused_comes { D.tells store.old ≡ true → (s : Status)
+        → IsRefusedByFiles (D.file store.old) named.entry.config.now
+        (texts named.entry.submits.now) s → IsErrAnd result (IsStatusUnlessFault s) }
     ensures early { IfErr result (λ s. IsAtFiles (stage_of s)) }
     ensures disk_fault { IfErr result
         (λ s. s ≡ Status.DiskFault → Rose (D.faults store.old) (D.faults store.new)) }

@@ -1,4 +1,4 @@
-use Rattle.std.proofs.Common.{◌≡◌, ◌∙◌, sym}
+use Rattle.std.proofs.Common.{◌∙◌, sym}
 use Rattle.pool_input.proofs.FileFaults.{of_config, config_refused, no_text_config, no_disk_config}
 use Rattle.pool_input.proofs.input.load_config.Goals as goal
 

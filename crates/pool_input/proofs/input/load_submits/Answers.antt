@@ -1,4 +1,4 @@
-use Rattle.std.proofs.Common.{◌≡◌, ◌∙◌, None, sym}
+use Rattle.std.proofs.Common.{◌∙◌, None, sym}
 use Rattle.pool_config.specs.Configuration.{configuration_of}
 use Rattle.thin_pool.specs.Histories.{submissions_in}
 use Rattle.thin_pool.specs.Reactions.{opening_pool}

@@ -1,7 +1,4 @@
-use Rattle.std.proofs.Common.{◌≡◌, ◌∙◌, ap, sym, subst}
 use Rattle.pool_config.specs.Configuration.{configuration_of}
-use Rattle.thin_pool.specs.PoolValue.{PoolValue}
-use Rattle.pool_input.specs.Input.{ArePlaced}
 use Rattle.pool_input.proofs.Slots.{slots_once, slots_placed, slots_some}
 use Rattle.pool_input.proofs.input.open.Goals as goal
 

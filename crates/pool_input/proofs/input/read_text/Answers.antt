@@ -1,5 +1,5 @@
-use Rattle.std.proofs.Common.{◌≡◌, ◌∙◌, Err, ap, sym}
-use Rattle.pool_input.proofs.FileFaults.{of_read, unread, no_utf8, disk_read}
+use Rattle.std.proofs.Common.{Err, ap}
+use Rattle.pool_input.proofs.FileFaults.{of_read, unread, no_utf8}
 use Rattle.pool_input.proofs.input.read_text.Goals as goal
 
 pub returns-in-Err-clause-refused : goal.returns-in-Err-clause-refused

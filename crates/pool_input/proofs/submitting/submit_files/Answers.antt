@@ -1,5 +1,4 @@
-use Rattle.std.proofs.Common.{◌≡◌, ◌∙◌, ◌∷◌, [], List, Option, Some, string_bytes, ℕ, true, sym, ap, subst, rules, arith}
-use Rattle.thin_pool.specs.PoolValue.{PoolValue}
+use Rattle.std.proofs.Common.{◌≡◌, ◌∙◌, ◌∷◌, [], List, Option, string_bytes, ℕ, sym, ap, subst, rules, arith}
 use Rattle.pool_input.specs.Faults.{UnlessOut}
 use Rattle.pool_input.specs.Submissions.{IsSubmitRefused}
 use Rattle.pool_input.specs.Words.{texts}
