@@ -14,9 +14,9 @@ use Rattle.thin_pool.specs.Moving.{EachMoves}
 use Rattle.thin_pool.specs.Reactions.{opening_pool, pool_after}
 use Rattle.pool_input.specs.declared.status.Status.{Status}
 use Rattle.pool_input.specs.declared.status.Status.TheVariants as status
-use Rattle.pool_input.specs.Faults.{UnlessFault}
-use Rattle.pool_input.specs.Input.{IsOfFiles, IsRefusedOf, OfFilesFrom, OfInputFrom, IsRefusedInput}
-use Rattle.pool_input.specs.Words.{IsRun}
+use Rattle.pool_input.specs.Faults.{UnlessFault, IsStatusUnlessFault}
+use Rattle.pool_input.specs.Input.{IsOfFiles, IsRefusedOf, OfFilesFrom, OfInputFrom, IsRefusedInput, IsRefusedByFiles, IsInputRefused}
+use Rattle.pool_input.specs.Words.{IsRun, IsNoRun}
 use Rattle.pool_input.specs.Readings.{AreRead}
 use Rattle.pool_input.specs.Status.{Stage, AtWords, AtFiles, AtAnyTime, AfterClose, Later, stage_of, IsAtFiles, IsAfterFiles, IsRefusal}
 use Rattle.pool_input.specs.Submissions.{Submits}
@@ -282,3 +282,22 @@ late_no_refusal (status.Limit which.Roll) late refuses = late
 late_no_refusal (status.Limit which.Events) late refuses = late
 late_no_refusal (status.Limit which.Users) late refuses = late
 late_no_refusal (status.Limit which.Boots) late refuses = late
+
+abbrev word_in : List (List ℕ) → List ℕ
+word_in [] = []
+word_in (w ∷ ws) = w
+
+abbrev words_after : List (List ℕ) → List (List ℕ)
+words_after [] = []
+words_after (w ∷ ws) = ws
+
+-- words name one configuration and one list of submit files
+pub refusal_named : (file : Contents) (words : List (List ℕ)) (config : List ℕ) (submits : List (List ℕ)) (s : Status) → IsRun words config submits → IsInputRefused file words s → IsRefusedByFiles file config submits s
+refusal_named file words config submits s is refused =
+    let same = sym refused.words_are.is ∙ is.is in
+    let first : refused.config ≡ config = ap (λ ws. word_in (words_after ws)) same in
+    let rest : refused.submits ≡ submits = ap (λ ws. words_after (words_after ws)) same in
+    subst (λ c. IsRefusedByFiles file c submits s) first (subst (λ r. IsRefusedByFiles file refused.config r s) rest refused.refused)
+
+pub not_named : (file : Contents) (words : List (List ℕ)) (s : Status) → IsNoRun words → IsInputRefused file words s → ⊥
+not_named file words s none refused = none refused.config refused.submits refused.words_are

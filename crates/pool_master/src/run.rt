@@ -1,8 +1,10 @@
 ghost use Rattle.std.specs.Prelude.{◌≡◌, ◌≢◌, ◌≤◌, ◌⊎◌, ◌↔◌, [], ℕ, List, Bool, true, false, None, Some, All, length, slice_get};
 ghost use Rattle.pool_outer.specs.Cause.{Rose, RoseBy};
 ghost use Rattle.pool_outer.specs.Files.{SameFiles};
+ghost use Rattle.pool_input.specs.declared.status.Status.{Status};
+ghost use Rattle.pool_input.specs.Faults.{IsStatusUnlessFault};
+ghost use Rattle.pool_input.specs.Input.{IsInputRefused, IsRefusedInput, IsRefusedByFiles, IsRefusedOf, HasSubmitted, OfInputFrom, OfFilesFrom};
 ghost use Rattle.thin_pool.specs.Histories.{submissions_in};
-ghost use Rattle.pool_input.specs.Input.{IsRefusedInput, IsRefusedOf, HasSubmitted, OfInputFrom, OfFilesFrom};
 ghost use Rattle.pool_input.specs.Readings.{AreRead, AreReadings};
 ghost use Rattle.pool_input.specs.Status.{stage_of, IsBeforePool, IsRefusal, IsAfterFiles, IsToday};
 ghost use Rattle.pool_input.specs.Words.{IsNoRun, texts};
@@ -100,6 +102,9 @@ pub fn run_pool<
     ensures status_usage { result.status ≡ Status.Usage ↔ IsNoRun (texts words.now) }
     ensures status_refused { D.tells store ≡ true → IsRefusal result.status
         → IsRefusedInput (C.allows clock.now) (D.file store) (texts words.now) result.status }
+    ensures status_refused_comes { D.tells store ≡ true → (s : Status)
+        → IsInputRefused (D.file store) (texts words.now) s
+        → IsStatusUnlessFault s result.status }
     ensures status_done { result.status ≡ Status.Done
         → IsClosed result.history false × (K.faults out.new ≡ K.faults out.old) }
     ensures status_done_comes { IsClosed result.history false
@@ -158,6 +163,9 @@ fn run<R: Wait, D: Store, C: Clock, P: Spawner, K: Sink>(
     ensures status_usage { result.0 ≡ Status.Usage ↔ IsNoRun (texts words.now) }
     ensures status_refused { D.tells store.old ≡ true → IsRefusal result.0
         → IsRefusedInput (C.allows clock.now) (D.file store.old) (texts words.now) result.0 }
+    ensures status_refused_comes { D.tells store.old ≡ true → (s : Status)
+        → IsInputRefused (D.file store.old) (texts words.now) s
+        → IsStatusUnlessFault s result.0 }
     ensures status_disk_fault { result.0 ≡ Status.DiskFault
         → Rose (D.faults store.old) (D.faults store.new) }
     ensures status_early { IsBeforePool (stage_of result.0) → HasNothing result.1 }
@@ -198,6 +206,9 @@ fn run_files<R: Wait, D: Store, C: Clock, P: Spawner, K: Sink>(
     ensures refused { D.tells store.old ≡ true → IsRefusal result.0
         → IsRefusedOf (C.allows clock.now) (D.file store.old) named.entry.config.now
         (texts named.entry.submits.now) result.0 }
+    ensures refused_comes { D.tells store.old ≡ true → (s : Status)
+        → IsRefusedByFiles (D.file store.old) named.entry.config.now
+        (texts named.entry.submits.now) s → IsStatusUnlessFault s result.0 }
     ensures disk_fault { result.0 ≡ Status.DiskFault
         → Rose (D.faults store.old) (D.faults store.new) }
     ensures early { IsBeforePool (stage_of result.0) → HasNothing result.1 }

@@ -1,7 +1,7 @@
 use Rattle.std.proofs.Common.{◌≡◌, arith}
 use Rattle.pool_input.specs.Words.{texts}
 use Rattle.pool_master.proofs.Spawners.{all_at}
-use Rattle.pool_master.proofs.PoolRun.{nothing_runs, files_of_input}
+use Rattle.pool_master.proofs.PoolRun.{nothing_runs, files_of_input, refusal_named, not_named}
 use Rattle.pool_master.proofs.run.run.Goals as goal
 
 pub returns-in-None-clause-runs : goal.returns-in-None-clause-runs
@@ -14,3 +14,9 @@ returns-in-Some-clause-history_input g c = λ told. files_of_input _ _ (texts c.
 
 pub returns-in-Some-clause-status_refused : goal.returns-in-Some-clause-status_refused
 returns-in-Some-clause-status_refused g c = λ told refuses. record { config = c.in-Some.named.config.now; submits = texts c.in-Some.named.submits.now; words_are = c.in-Some.ensures; refused = c.run_files.ensures.refused told refuses }
+
+pub returns-in-None-clause-status_refused_comes : goal.returns-in-None-clause-status_refused_comes
+returns-in-None-clause-status_refused_comes g c = λ told s refused. absurd (not_named _ (texts c.args.words.now) s c.in-None.ensures refused)
+
+pub returns-in-Some-clause-status_refused_comes : goal.returns-in-Some-clause-status_refused_comes
+returns-in-Some-clause-status_refused_comes g c = λ told s refused. c.run_files.ensures.refused_comes told s (refusal_named _ (texts c.args.words.now) c.in-Some.named.config.now (texts c.in-Some.named.submits.now) s c.in-Some.ensures refused)

@@ -19,3 +19,9 @@ returns-in-Ok-clause-files g c = λ told. of_files (g.C.Clock.allows c.args.cloc
 
 pub returns-in-Ok-clause-refused : goal.returns-in-Ok-clause-refused
 returns-in-Ok-clause-refused g c = λ told refuses. absurd (late_no_refusal c.run_course.result.0 c.run_course.ensures.late refuses)
+
+pub returns-in-Ok-clause-refused_comes : goal.returns-in-Ok-clause-refused_comes
+returns-in-Ok-clause-refused_comes g c = λ told s refused. absurd (c.in-Ok.ensures.refused_comes told s refused)
+
+pub returns-in-Err-clause-refused_comes : goal.returns-in-Err-clause-refused_comes
+returns-in-Err-clause-refused_comes g c = λ told s refused. c.in-Err.ensures.refused_comes told s refused
