@@ -1,0 +1,11 @@
+pub mod SameNumbers
+pub mod Keeps
+pub mod Rows
+pub mod KeepsRows
+pub mod Starts
+pub mod KeepsReactions
+pub mod CueRows
+pub mod OverRows
+pub mod MoveRows
+pub mod MayRows
+pub mod MoveMails

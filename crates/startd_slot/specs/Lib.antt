@@ -1,0 +1,13 @@
+pub mod SlotStates
+pub mod Reactions
+pub mod AskTable
+pub mod ActivateTable
+pub mod RunTable
+pub mod ReleaseTable
+pub mod EndingTable
+pub mod Consistent
+pub mod Cues
+pub mod Over
+pub mod SlotMoves
+pub mod Mails
+pub mod Starting
