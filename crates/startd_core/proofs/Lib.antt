@@ -1,2 +1,7 @@
 pub mod Puts
-pub mod Starts
+pub mod Places
+pub mod Settling
+pub mod Sounds
+pub mod TimeRows
+pub mod Telling
+pub mod Stays

@@ -2,7 +2,7 @@
 use Rattle.std.proofs.Common.{◌≡◌, ℕ, ◌<◌, inl, inr, Some, length, slice_get, sym, subst, arith}
 use Rattle.std.proofs.lemmas.Option.{slice_get_cases}
 use Rattle.startd_core.specs.declared.conclude.Conclusion.{Conclusion}
-use Rattle.startd_core.specs.declared.slot.Slot.{Slot}
+use Rattle.startd_slot.specs.declared.slot.Slot.{Slot}
 use Rattle.startd_core.specs.Startds.{StartdValue, with_conclusion, put_in, put_at}
 
 pub put_is : (v : StartdValue) (place : ℕ) (c : Conclusion) (w : StartdValue)

@@ -1,12 +1,6 @@
-pub mod SlotStates
 pub mod Secrets
-pub mod Reactions
-pub mod AskTable
-pub mod ActivateTable
-pub mod RunTable
-pub mod ReleaseTable
-pub mod EndingTable
-pub mod TickTable
 pub mod Offers
+pub mod Sound
+pub mod TickTable
+pub mod TimeMoves
 pub mod Startds
-pub mod Starting

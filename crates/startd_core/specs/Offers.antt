@@ -6,12 +6,12 @@ use Rattle.pool_mail.specs.declared.mail.Mail.{Mail}
 use Rattle.pool_mail.specs.declared.mail.Mail.TheVariants.{Update}
 use Rattle.slot_state.specs.declared.pair.Pair.{Pair}
 use Rattle.slot_state.specs.declared.pair.Pair.TheVariants.{OwnerIdle, UnclaimedIdle, MatchedIdle, ClaimedIdle, ClaimedBusy, ClaimedRetiring, PreemptingVacating, PreemptingKilling}
-use Rattle.startd_core.specs.declared.held.Held.{Held}
-use Rattle.startd_core.specs.declared.react.Machine.{Machine}
-use Rattle.startd_core.specs.declared.slot.Slot.{Slot}
-use Rattle.startd_core.specs.declared.slot.SlotState.{SlotState}
+use Rattle.startd_slot.specs.declared.held.Held.{Held}
+use Rattle.startd_core.specs.declared.offers.Machine.{Machine}
+use Rattle.startd_slot.specs.declared.slot.Slot.{Slot}
+use Rattle.startd_slot.specs.declared.slot.SlotState.{SlotState}
 use Rattle.startd_core.specs.Secrets.{secret_of}
-use Rattle.startd_core.specs.SlotStates.{is_open, same_claim_id}
+use Rattle.startd_slot.specs.SlotStates.{is_open, same_claim_id}
 
 -- ---- the offer, once the pair is settled
 -- a slot, and how many claims its machine has offered over all its boots

@@ -1,5 +1,5 @@
 -- A machine's startd: what it keeps, and what each event makes of it.
-use Rattle.std.specs.Prelude.{ℕ, ◌+◌, ◌-◌, ◌==◌, Bool, true, false, not, ◌&&◌, ◌||◌, List, [], ◌∷◌, ◌++◌, length, slice_get, slice_set, Option, Some, None, is_some, nat_le, nat_lt, if◌then◌else◌}
+use Rattle.std.specs.Prelude.{ℕ, ◌+◌, ◌-◌, ◌==◌, Bool, true, false, not, ◌&&◌, ◌||◌, List, [], ◌∷◌, ◌++◌, length, slice_get, slice_set, Option, Some, None, nat_le, nat_lt, if◌then◌else◌}
 use Rattle.ad_tree.specs.Ad.{Attributes}
 use Rattle.ad_eval.specs.Judgement.{Judgement}
 use Rattle.claim_id.specs.declared.numbers.ClaimNo.{ClaimNo}
@@ -7,32 +7,25 @@ use Rattle.claim_id.specs.declared.numbers.RunNo.{RunNo}
 use Rattle.claim_id.specs.declared.numbers.SlotId.{SlotId}
 use Rattle.pool_mail.specs.declared.end.Ending.{Ending}
 use Rattle.pool_mail.specs.declared.mail.Mail.{Mail}
-use Rattle.pool_mail.specs.declared.mail.Mail.TheVariants.{Matched, Ask, Activate, Alive, Stop, Release}
 use Rattle.pool_mail.specs.declared.settings.Settings.{Settings}
 use Rattle.startd_core.specs.declared.answer.StartdAnswer.{StartdAnswer}
 use Rattle.startd_core.specs.declared.answer.StartdAnswer.TheVariants as answer
 use Rattle.startd_core.specs.declared.answer.StartdStep.{StartdStep}
 use Rattle.startd_core.specs.declared.conclude.Conclusion.{Conclusion}
 use Rattle.startd_core.specs.declared.conclude.Made.{Made}
-use Rattle.startd_core.specs.declared.react.Machine.{Machine}
-use Rattle.startd_core.specs.declared.react.Reaction.{Reaction}
-use Rattle.startd_core.specs.declared.react.Task.{Task}
-use Rattle.startd_core.specs.declared.react.Task.TheVariants as task
-use Rattle.startd_core.specs.declared.run_mails.ActivateRow.{ActivateRow}
-use Rattle.startd_core.specs.declared.run_mails.ActivateRow.TheVariants as activation
-use Rattle.startd_core.specs.declared.slot.Slot.{Slot}
-use Rattle.startd_core.specs.declared.slot.SlotState.{SlotState}
+use Rattle.startd_core.specs.declared.offers.Machine.{Machine}
+use Rattle.startd_slot.specs.declared.reaction.Reaction.{Reaction}
+use Rattle.startd_slot.specs.declared.reaction.Task.{Task}
+use Rattle.startd_slot.specs.declared.reaction.Task.TheVariants as task
+use Rattle.startd_slot.specs.declared.slot.Slot.{Slot}
+use Rattle.startd_slot.specs.declared.slot.SlotState.{SlotState}
 use Rattle.startd_core.specs.declared.tick.TickRow.{TickRow}
 use Rattle.startd_core.specs.declared.ticks.Ticks.{Ticks}
-use Rattle.startd_core.specs.ActivateTable.{activate_row, after_activate}
-use Rattle.startd_core.specs.AskTable.{after_ask, after_matched}
-use Rattle.startd_core.specs.EndingTable.{after_ending}
+use Rattle.startd_slot.specs.EndingTable.{after_ending}
 use Rattle.startd_core.specs.Offers.{Settled, settled, update_of, with_told, has_changed, has_entered}
-use Rattle.startd_core.specs.Reactions.{becomes}
-use Rattle.startd_core.specs.ReleaseTable.{after_release}
-use Rattle.startd_core.specs.RunTable.{after_alive, after_stop}
-use Rattle.startd_core.specs.SlotStates.{slot_after_boot, offers_claim, runs_on}
-use Rattle.startd_core.specs.TickTable.{is_act, is_update_due, slot_row, after_tick_row, killed_by}
+use Rattle.startd_slot.specs.Mails.{asked_claim, reaction_to, is_judged}
+use Rattle.startd_slot.specs.SlotStates.{slot_after_boot, runs_on}
+use Rattle.startd_core.specs.TickTable.{is_act, is_update_due, looks_at_start, slot_row, after_tick_row, killed_by}
 
 pub record StartdValue : Type 0 where
   pub machine : Machine
@@ -52,21 +45,6 @@ with_slot name ad v = record v {
     state = slot_after_boot 0;
   } ∷ [];
 }
-
--- ---- a mail and a slot
-unfoldable pub reaction_to : ℕ → Slot → Mail → Option Judgement → ℕ → Reaction
-reaction_to boot slot (Matched found) judged reading = after_matched found.claim reading slot.state
-reaction_to boot slot (Ask claim job ad by_priority) judged reading =
-    after_ask slot (record { claim = claim; job = job; by_priority = by_priority }) ad
-    (is_some judged) reading
-reaction_to boot slot (Activate run job ad until) judged reading =
-    after_activate boot (record { run = run; job = job; until = until }) ad judged reading
-    slot.state
-reaction_to boot slot (Alive run until) judged reading =
-    after_alive boot run until reading slot.state
-reaction_to boot slot (Stop run) judged reading = after_stop boot run slot.state
-reaction_to boot slot (Release claim) judged reading = after_release claim reading slot.state
-reaction_to boot slot _ judged reading = becomes slot.state
 
 -- ---- what a reaction comes to, with the slot's offer and its Update
 abbrev pub told : Slot → Settled → List Mail → Bool → ℕ → Conclusion
@@ -147,16 +125,6 @@ after_made v place made = record {
 }
 
 -- ---- a mail is received
--- the claim of which a mail to a startd speaks
-abbrev pub asked_claim : Mail → Option ClaimNo
-asked_claim (Matched found) = Some found.claim.no
-asked_claim (Ask claim job ad by_priority) = Some claim.no
-asked_claim (Activate run job ad until) = Some run.claim
-asked_claim (Alive run until) = Some run.claim
-asked_claim (Stop run) = Some run.claim
-asked_claim (Release claim) = Some claim
-asked_claim _ = None
-
 -- a slot that the machine doesn't have knows of no claim
 abbrev pub nowhere : StartdValue → ℕ → Slot
 nowhere v reading = record {
@@ -217,23 +185,9 @@ after_end v ending reading = ended_in v (place_of v ending.run.claim.slot) endin
 abbrev pub judge_where : Bool → SlotId → Option SlotId
 judge_where judged slot = if judged then Some slot else None
 
--- an Activate is judged where the want of a match would be what refuses it
-abbrev pub is_judged_row : ActivateRow → Bool
-is_judged_row (activation.NotHeld spent) = false
-is_judged_row (activation.Spent last) = false
-is_judged_row (activation.Occupied run) = false
-is_judged_row activation.Past = false
-is_judged_row activation.NotMatched = true
-is_judged_row activation.Starts = false
-
 abbrev pub judged_slot : ℕ → Option Slot → Mail → ℕ → Option SlotId
 judged_slot boot None mail reading = None
-judged_slot boot (Some slot) (Ask claim job ad by_priority) reading =
-    judge_where (offers_claim slot.state claim) slot.id
-judged_slot boot (Some slot) (Activate run job ad until) reading = judge_where (is_judged_row
-    (activate_row slot.state boot (record { run = run; job = job; until = until }) false reading))
-    slot.id
-judged_slot boot (Some slot) _ reading = None
+judged_slot boot (Some slot) mail reading = judge_where (is_judged boot slot mail reading) slot.id
 
 abbrev pub slot_of_claim : StartdValue → Option ClaimNo → Option Slot
 slot_of_claim v None = None
@@ -322,6 +276,11 @@ is_due_after (Some ticked) v reading = v.restless
 -- or after it; at a later reading, where a cue or an Update would come
 abbrev pub is_due : StartdValue → ℕ → Bool
 is_due v reading = is_due_after v.ticked v reading
+
+-- a tick would look at the Start of one of the slots
+abbrev pub is_start_seen : List Slot → Bool
+is_start_seen [] = false
+is_start_seen (slot ∷ slots) = looks_at_start slot.state.pair || is_start_seen slots
 
 -- the reading isn't later than that of the last tick, and nothing was entered since
 abbrev pub is_early_after : Option ℕ → StartdValue → ℕ → Bool

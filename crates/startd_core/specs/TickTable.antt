@@ -10,13 +10,13 @@ use Rattle.pool_mail.specs.declared.settings.Settings.{Settings}
 use Rattle.slot_state.specs.declared.pair.Cue.TheVariants as cue
 use Rattle.slot_state.specs.declared.pair.Pair.{Pair}
 use Rattle.slot_state.specs.declared.pair.Pair.TheVariants.{OwnerIdle, UnclaimedIdle, MatchedIdle, ClaimedIdle, ClaimedBusy, ClaimedRetiring, PreemptingVacating, PreemptingKilling}
-use Rattle.startd_core.specs.declared.held.Held.{Held}
-use Rattle.startd_core.specs.declared.held.Running.{Running}
-use Rattle.startd_core.specs.declared.slot.Slot.{Slot}
-use Rattle.startd_core.specs.declared.slot.SlotState.{SlotState}
+use Rattle.startd_slot.specs.declared.held.Held.{Held}
+use Rattle.startd_slot.specs.declared.held.Running.{Running}
+use Rattle.startd_slot.specs.declared.slot.Slot.{Slot}
+use Rattle.startd_slot.specs.declared.slot.SlotState.{SlotState}
 use Rattle.startd_core.specs.declared.tick.TickRow.{TickRow}
 use Rattle.startd_core.specs.declared.tick.TickRow.TheVariants as row
-use Rattle.startd_core.specs.SlotStates.{running_of, after_cue, without_claim, with_running, evicted}
+use Rattle.startd_slot.specs.SlotStates.{running_of, after_cue, without_claim, with_running, evicted}
 
 -- at or past so many seconds after a reading
 abbrev pub is_after : ℕ → ℕ → ℕ → Bool
@@ -43,6 +43,17 @@ is_run_past (Some running) reading = nat_le running.until reading
 -- the lease of the run on the slot is past
 abbrev pub is_lease_past : SlotState → ℕ → Bool
 is_lease_past s reading = is_run_past (running_of s) reading
+
+-- a tick looks at Start in the pairs in which nobody has claimed the slot
+abbrev pub looks_at_start : Pair → Bool
+looks_at_start OwnerIdle = true
+looks_at_start UnclaimedIdle = true
+looks_at_start MatchedIdle = true
+looks_at_start ClaimedIdle = false
+looks_at_start ClaimedBusy = false
+looks_at_start ClaimedRetiring = false
+looks_at_start PreemptingVacating = false
+looks_at_start PreemptingKilling = false
 
 -- ---- the cue that time brings to a slot, by its pair; `start` says whether Start lets jobs in
 abbrev pub row_in : Pair → SlotState → Settings → Bool → ℕ → TickRow

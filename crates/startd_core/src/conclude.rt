@@ -5,12 +5,12 @@ ghost use Rattle.startd_core.specs.Offers.{Settled, settled, pair_place, same_pa
 ghost use Rattle.startd_core.specs.Startds.{told, told_where_changed, made_by, answer_of};
 
 use crate::answer::{Permit, RunList, StartdAnswer};
-use crate::react::{Machine, Reaction, Task, settle_offer, update_of};
-use crate::slot::{Slot, SlotState};
+use crate::offers::{Machine, settle_offer, update_of};
 use ad_value::Memory;
 use claim_id::ClaimId;
 use pool_mail::MailList;
 use slot_state::Pair;
+use startd_slot::{Reaction, Slot, SlotState, Task};
 use std::alloc::Global;
 
 /// How a slot stands after an event, how many claims its machine has offered then, and the mails

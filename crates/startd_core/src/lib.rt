@@ -3,21 +3,16 @@
 #![tactic(auto)]
 
 mod answer;
-mod ask;
 mod conclude;
-mod ending;
-mod held;
 pub mod laws;
-mod react;
-mod run_mails;
+mod offers;
+mod parts;
 mod secret;
-mod slot;
 mod startd;
 mod tick;
 mod ticks;
 
 pub use answer::{Permit, RunList, StartdAnswer, StartdStep};
-pub use held::{Held, Mark, Rival, Running};
 pub use secret::secret_of;
-pub use slot::{Slot, SlotState};
 pub use startd::Startd;
+pub use startd_slot::{Held, Mark, Rival, Running, Slot, SlotState};

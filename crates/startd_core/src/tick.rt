@@ -1,18 +1,18 @@
 // What comes with time.
 
-ghost use Rattle.std.specs.Prelude.{◌≡◌, IfOk, if◌then◌else◌};
+ghost use Rattle.std.specs.Prelude.{◌≡◌, true, IfOk, OnErr, if◌then◌else◌};
 ghost use Rattle.std.specs.Option.{option_copied};
 ghost use Rattle.ad_value.specs.Content.{content};
-ghost use Rattle.startd_core.specs.TickTable.{is_after, lets_in, is_start_on, is_unheard, is_run_past, is_lease_past, tick_row, after_tick_row, after_kill, is_act, is_kill, is_update_due};
+ghost use Rattle.startd_core.specs.TickTable.{is_after, lets_in, is_start_on, is_unheard, is_run_past, is_lease_past, tick_row, after_tick_row, after_kill, is_act, is_kill, is_update_due, looks_at_start, slot_row};
 ghost use Rattle.startd_core.specs.declared.tick.TickRow.{TickRow};
 ghost use Rattle.startd_core.specs.declared.tick.TickRow.TheVariants as rows;
 
-use crate::slot::{Slot, SlotState};
 use ad_eval::eval;
 use ad_names::slot::START;
 use ad_value::{Memory, Value};
 use pool_mail::Settings;
 use slot_state::{Cue, Pair};
+use startd_slot::{Slot, SlotState};
 use std::alloc::Global;
 
 /// Whether a time has come: so many seconds after a reading.
@@ -22,8 +22,8 @@ pub(crate) fn is_after(since: u64, seconds: u64, reading: u64) -> bool
     u128::from(since) + u128::from(seconds) <= u128::from(reading)
 }
 
-/// Whether the slot's Start, by its own ad, lets jobs in: it does unless it is FALSE or 0.
-pub(crate) fn is_start_on(alloc: Global, slot: &Slot, reading: u64) -> Result<bool, Memory>
+// Whether the slot's Start, by its own ad, lets jobs in: it does unless it is FALSE or 0.
+fn is_start_on(alloc: Global, slot: &Slot, reading: u64) -> Result<bool, Memory>
     ensures { IfOk result (λ on. on ≡ is_start_on slot.now.ad reading) }
 {
     let value = eval(alloc, &slot.ad, None, START, reading)?;
@@ -53,8 +53,40 @@ pub(crate) enum TickRow {
     Nothing,
 }
 
-/// The first cue that time brings; `start` says whether Start lets jobs in.
-pub(crate) fn tick_row(state: &SlotState, settings: &Settings, start: bool, reading: u64) -> TickRow
+/// What a tick makes of a slot at a reading. It looks at Start in some pairs alone, and runs out of
+/// memory only there.
+pub(crate) fn slot_row(
+    alloc: Global,
+    slot: &Slot,
+    settings: &Settings,
+    reading: u64,
+) -> Result<TickRow, Memory>
+    ensures row { IfOk result (λ row. row ≡ slot_row slot.now settings.now reading) }
+    ensures refused { OnErr result (looks_at_start slot.now.state.pair ≡ true) }
+{
+    if !looks_at_start(slot.state.pair) {
+        return Ok(tick_row(&slot.state, settings, true, reading));
+    }
+    let start = is_start_on(alloc, slot, reading)?;
+    Ok(tick_row(&slot.state, settings, start, reading))
+}
+
+// Whether a tick looks at the Start of a slot in that pair.
+fn looks_at_start(pair: Pair) -> bool
+    ensures { result ≡ looks_at_start pair }
+{
+    match pair {
+        Pair::OwnerIdle | Pair::UnclaimedIdle | Pair::MatchedIdle => true,
+        Pair::ClaimedIdle
+        | Pair::ClaimedBusy
+        | Pair::ClaimedRetiring
+        | Pair::PreemptingVacating
+        | Pair::PreemptingKilling => false,
+    }
+}
+
+// The first cue that time brings; `start` says whether Start lets jobs in.
+fn tick_row(state: &SlotState, settings: &Settings, start: bool, reading: u64) -> TickRow
     ensures { result ≡ tick_row state.now settings.now start reading }
 {
     match state.pair {

@@ -6,11 +6,11 @@ ghost use Rattle.startd_core.specs.TickTable.{killed_by};
 
 use crate::answer::RunList;
 use crate::conclude::{Conclusion, has_changed, has_entered, tell};
-use crate::react::{Machine, settle_offer};
-use crate::slot::{Slot, SlotState};
-use crate::tick::{TickRow, apply_row, is_kill, is_start_on, is_update_due, tick_row};
+use crate::offers::{Machine, settle_offer};
+use crate::tick::{TickRow, apply_row, is_kill, is_update_due, slot_row};
 use ad_value::{Copied, Memory, Seq};
 use pool_mail::{MailList, Settings};
+use startd_slot::{Slot, SlotState};
 use std::alloc::Global;
 
 /// A list of slots.
@@ -51,8 +51,7 @@ impl Ticks {
         ensures { IfOk result (λ t. t
             ≡ after_slot machine settings.now slot.now reading self) }
     {
-        let start = is_start_on(alloc, slot, reading)?;
-        let row = tick_row(&slot.state, settings, start, reading);
+        let row = slot_row(alloc, slot, settings, reading)?;
         self.take_row(alloc, machine, settings, slot, row, reading)
     }
 

@@ -1,0 +1,79 @@
+-- Each event leaves a startd sound.
+use Rattle.std.proofs.Common.{◌≡◌, ℕ, ◌+◌, Bool, true, false, List, [], length, Option, Some, None, slice_get, refl, sym, ◌∙◌, subst, Result, Ok, Err, IfOk, OnErr}
+use Rattle.ad_tree.specs.Ad.{Attributes}
+use Rattle.ad_eval.specs.Judgement.{Judgement}
+use Rattle.claim_id.specs.declared.numbers.ClaimNo.{ClaimNo}
+use Rattle.pool_mail.specs.declared.end.Ending.{Ending}
+use Rattle.pool_mail.specs.declared.mail.Mail.{Mail}
+use Rattle.startd_slot.specs.declared.slot.Slot.{Slot}
+use Rattle.startd_slot.specs.EndingTable.{after_ending}
+use Rattle.startd_slot.specs.Mails.{asked_claim, reaction_to}
+use Rattle.startd_slot.specs.SlotStates.{runs_on, slot_after_boot}
+use Rattle.startd_core.specs.declared.conclude.Conclusion.{Conclusion}
+use Rattle.startd_core.specs.Sound.{IsSlotAt, AreSound, IsSound}
+use Rattle.startd_core.specs.Startds.{StartdValue, with_slot, put_in, put_at, made_by, received_at, received_in, received_of, after_mail, ended_where, ended_at, ended_in, after_end, place_of, after_tick, after_reboot}
+use Rattle.startd_core.proofs.Places.{put_sound}
+use Rattle.startd_core.proofs.Sounds.{mail_sound, end_sound, tick_sound, reboot_sound, new_sound}
+
+put_stays : (v : StartdValue) (place : ℕ) (c : Conclusion) → ((slot : Slot) → slice_get v.slots place ≡ Some slot → IsSlotAt v.machine place (record slot { state = c.state })) → IsSound v → IsSound (put_at v place c)
+unfolding put_at
+put_stays v place c new sound = by_slot (slice_get v.slots place) refl
+  where
+    by_slot : (o : Option Slot) → slice_get v.slots place ≡ o → IsSound (put_in v place o c)
+    by_slot None at = sound
+    by_slot (Some slot) at = record { slots = put_sound v.machine v.slots place (record slot { state = c.state }) (new slot at) sound.slots }
+
+same_slot_there : (v : StartdValue) (place : ℕ) (slot other : Slot) → slice_get v.slots place ≡ Some slot → slice_get v.slots place ≡ Some other → slot ≡ other
+same_slot_there v place slot other at there = (let same : Some slot ≡ Some other = sym at ∙ there in cc)
+
+pub mail_stays : (v : StartdValue) (mail : Mail) (judged : Option Judgement) (reading : ℕ) → IsSound v → IsSound (after_mail v mail judged reading).startd
+mail_stays v mail judged reading sound = by_claim (asked_claim mail)
+  where
+    by_slot : (place : ℕ) (o : Option Slot) → slice_get v.slots place ≡ o → IsSound (received_at v place o mail judged reading).startd
+    by_slot place None at = sound
+    by_slot place (Some slot) at = put_stays v place (made_by v.machine v.offers slot (reaction_to v.machine.boot slot mail judged reading) reading).conclusion
+        (λ other there. subst (λ (x : Slot). IsSlotAt v.machine place (record x { state = (made_by v.machine v.offers slot (reaction_to v.machine.boot slot mail judged reading) reading).conclusion.state })) (same_slot_there v place slot other at there)
+        (mail_sound v.machine place slot v.offers mail judged reading (sound.slots place slot at))) sound
+
+    by_place : (o : Option ℕ) → IsSound (received_in v o mail judged reading).startd
+    by_place None = sound
+    by_place (Some place) = by_slot place (slice_get v.slots place) refl
+
+    by_claim : (o : Option ClaimNo) → IsSound (received_of v o mail judged reading).startd
+    by_claim None = sound
+    by_claim (Some claim) = by_place (place_of v claim.slot)
+
+pub end_stays : (v : StartdValue) (ending : Ending) (reading : ℕ) → IsSound v → IsSound (after_end v ending reading).startd
+end_stays v ending reading sound = by_place (place_of v ending.run.claim.slot)
+  where
+    by_run : (place : ℕ) (slot : Slot) (here : Bool) → runs_on slot.state ending.run ≡ here → slice_get v.slots place ≡ Some slot → IsSound (ended_where here v place slot ending reading).startd
+    by_run place slot false here at = sound
+    by_run place slot true here at = put_stays v place (made_by v.machine v.offers slot (after_ending ending reading slot.state) reading).conclusion
+        (λ other there. subst (λ (x : Slot). IsSlotAt v.machine place (record x { state = (made_by v.machine v.offers slot (after_ending ending reading slot.state) reading).conclusion.state })) (same_slot_there v place slot other at there)
+        (end_sound v.machine place slot v.offers ending reading here (sound.slots place slot at))) sound
+
+    by_slot : (place : ℕ) (o : Option Slot) → slice_get v.slots place ≡ o → IsSound (ended_at v place o ending reading).startd
+    by_slot place None at = sound
+    by_slot place (Some slot) at = by_run place slot (runs_on slot.state ending.run) refl at
+
+    by_place : (o : Option ℕ) → IsSound (ended_in v o ending reading).startd
+    by_place None = sound
+    by_place (Some place) = by_slot place (slice_get v.slots place) refl
+
+pub tick_stays : (v : StartdValue) (reading : ℕ) → IsSound v → IsSound (after_tick v reading).startd
+tick_stays v reading sound = record { slots = tick_sound v.machine v.settings v.slots reading v.offers sound.slots }
+
+pub reboot_stays : (v : StartdValue) (reading : ℕ) → IsSound v → IsSound (after_reboot v reading).startd
+reboot_stays v reading sound = record { slots = reboot_sound v.machine (v.machine.boot + 1) v.slots reading v.offers sound.slots }
+
+pub slot_stays : (v : StartdValue) (name : List ℕ) (ad : Attributes) → IsSound v → IsSound (with_slot name ad v)
+slot_stays v name ad sound =
+    record { slots = new_sound v.machine v.slots (record { id = record { machine = v.machine.number; slot = length v.slots + 1 }; name = name; ad = ad; state = slot_after_boot 0 }) (length v.slots) 0 refl refl refl sound.slots }
+
+pub new_stays : (v : StartdValue) → v.slots ≡ [] → IsSound v
+new_stays v none = record { slots = subst (λ (xs : List Slot). AreSound v.machine xs) (sym none) (λ place slot is. cc) }
+
+-- a call that either makes the event's startd or leaves it as it is
+pub call_stays : {T E : Type 0} (r : Result T E) (new old after : StartdValue) → IfOk r (λ x. new ≡ after) → OnErr r (new ≡ old) → IsSound old → IsSound after → IsSound new
+call_stays (Ok x) new old after made kept sound stays = subst IsSound (sym made) stays
+call_stays (Err e) new old after made kept sound stays = subst IsSound (sym kept) sound

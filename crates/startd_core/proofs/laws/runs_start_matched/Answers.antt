@@ -1,5 +1,0 @@
-use Rattle.startd_core.proofs.Starts.{runs_start_matched}
-use Rattle.startd_core.proofs.laws.runs_start_matched.Goals as goal
-
-pub returns : goal.returns
-returns c = runs_start_matched
