@@ -10,3 +10,9 @@ pub mod Cycles
 pub mod Order
 pub mod Openings
 pub mod Snapshots
+pub mod KeptLists
+pub mod ListTables
+pub mod PartyTurns
+pub mod Judged
+pub mod Numbering
+pub mod QuickCycles

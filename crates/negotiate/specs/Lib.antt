@@ -6,3 +6,5 @@ pub mod Keyed
 pub mod Plain
 pub mod Loops
 pub mod Laws
+pub mod Grouped
+pub mod Parties

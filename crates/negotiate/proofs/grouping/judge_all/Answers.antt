@@ -1,0 +1,23 @@
+use Rattle.std.proofs.Common.{arith}
+use Rattle.negotiate.proofs.Judged.{judged_none, judged_yes, judged_no}
+use Rattle.negotiate.proofs.grouping.judge_all.Goals as goal
+use Rattle.negotiate.proofs.grouping.judge_all.Goals.{in-Some+in_ok-push, in_default}
+
+pub loop-slot-init : goal.loop-slot-init
+loop-slot-init g c = record {
+  list = judged_none c.args.snapshot.now.now c.args.made.now c.args.request.now c.new-list.result.items c.new-list.ensures.items;
+  cost = omega arith;
+}
+
+pub loop-slot-preserved : goal.loop-slot-preserved
+loop-slot-preserved g c = record {
+  list = elim c.match-branch-2.branch [
+    | in-Some+in_ok-push w ↦ rw w.list-is
+        (judged_yes c.args.snapshot.now.now c.as_slice-slots.result.now c.args.made.now c.args.request.now c.loop-slot.slot-index c.slot-item.result c.in_ok-kept.field-0 w.in-Some.kept c.loop-slot.list.items w.push.new.self.items
+        c.loop-slot-test.true c.slot-item.is c.in_ok-kept.ensures.kept w.in-Some.is w.in_ok-push.ensures.items c.loop-slot.invariant.list)
+    | in_default w ↦ rw w.list-is
+        (judged_no c.args.snapshot.now.now c.as_slice-slots.result.now c.args.made.now c.args.request.now c.loop-slot.slot-index c.slot-item.result c.in_ok-kept.field-0 c.loop-slot.list.items
+        c.loop-slot-test.true c.slot-item.is c.in_ok-kept.ensures.kept w.in_default.is c.loop-slot.invariant.list)
+  ];
+  cost = let a = c.kept_now.ensures.cost in let b = c.loop-slot.invariant.cost in omega arith;
+}
