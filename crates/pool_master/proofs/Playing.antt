@@ -1,8 +1,7 @@
 -- The steps of a run of the pool in its history.
-use Rattle.std.proofs.Common.{◌≡◌, ◌∙◌, ℕ, suc, ◌<◌, List, [], ◌∷◌, ◌++◌, length, Option, Some, None, IsSome, Bool, true, false, true≢false, ◌+◌, if◌then◌else◌, refl, sym, ap, subst, arith}
+use Rattle.std.proofs.Common.{◌≡◌, ◌∙◌, ℕ, suc, ◌<◌, List, [], ◌∷◌, ◌++◌, Some, None, IsSome, Bool, true, false, true≢false, if◌then◌else◌, refl, sym, ap, subst, arith}
 use Rattle.std.proofs.lemmas.List.{append-nil}
-use Rattle.std.proofs.lemmas.Bool.{eqb-true}
-use Rattle.std.specs.List.{All, filter_map}
+use Rattle.std.specs.List.{filter_map}
 use Rattle.ad_tree.specs.Ad.{Attributes}
 use Rattle.ad_eval.specs.Judgement.{Judgement, Mismatch}
 use Rattle.pool_outer.specs.declared.spawner.Launch.{Launch}

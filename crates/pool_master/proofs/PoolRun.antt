@@ -2,7 +2,6 @@
 use Rattle.std.proofs.Common.{◌≡◌, ◌≢◌, ◌∙◌, ◌⊎◌, inl, inr, ℕ, List, [], ◌∷◌, ◌++◌, length, take, Bool, true, false, Option, Some, None, IfSome, slice_get, refl, sym, ap, subst, arith}
 use Rattle.std.specs.Option.{option_map}
 use Rattle.std.proofs.lemmas.List.{append-nil}
-use Rattle.ad_tree.specs.Ad.{Attributes}
 use Rattle.pool_outer.specs.Cause.{Rose}
 use Rattle.pool_outer.specs.declared.limit.Which.TheVariants as which
 use Rattle.pool_outer.specs.Files.{Contents}
@@ -14,12 +13,11 @@ use Rattle.thin_pool.specs.Moving.{EachMoves}
 use Rattle.thin_pool.specs.Reactions.{opening_pool, pool_after}
 use Rattle.pool_input.specs.declared.status.Status.{Status}
 use Rattle.pool_input.specs.declared.status.Status.TheVariants as status
-use Rattle.pool_input.specs.Faults.{UnlessFault, IsStatusUnlessFault}
-use Rattle.pool_input.specs.Input.{IsOfFiles, IsRefusedOf, OfFilesFrom, OfInputFrom, IsRefusedInput, IsRefusedByFiles, IsInputRefused}
+use Rattle.pool_input.specs.Faults.{UnlessFault}
+use Rattle.pool_input.specs.Input.{IsOfFiles, OfFilesFrom, OfInputFrom, IsRefusedByFiles, IsInputRefused}
 use Rattle.pool_input.specs.Words.{IsRun, IsNoRun}
 use Rattle.pool_input.specs.Readings.{AreRead}
 use Rattle.pool_input.specs.Status.{Stage, AtWords, AtFiles, AtAnyTime, AfterClose, Later, stage_of, IsAtFiles, IsAfterFiles, IsRefusal}
-use Rattle.pool_input.specs.Submissions.{Submits}
 use Rattle.pool_master.specs.Runs.{JobRun, runs_in, runs_on}
 use Rattle.pool_master.specs.Follows.{Follows, HasLaunched, spawner_at, IsBetween, EachGoesOn, AreUntouched, AtEach}
 use Rattle.pool_master.specs.Seen.{SpawnerSeen, SinkSeen}

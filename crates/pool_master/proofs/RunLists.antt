@@ -1,5 +1,5 @@
 -- One more step of a history: which runs have begun, and how they have ended.
-use Rattle.std.proofs.Common.{◌≡◌, ◌∙◌, ℕ, List, [], ◌∷◌, ◌++◌, map, Option, Some, None, IsSome, Bool, true, false, true≢false, refl, sym, ap, append_assoc, if◌then◌else◌}
+use Rattle.std.proofs.Common.{◌≡◌, ◌∙◌, ℕ, List, [], ◌∷◌, ◌++◌, map, Option, Some, None, IsSome, Bool, true≢false, refl, sym, ap, append_assoc, if◌then◌else◌}
 use Rattle.std.proofs.lemmas.List.{append-nil, map-append}
 use Rattle.std.proofs.lemmas.List.Elements.{filter_map-append}
 use Rattle.std.specs.List.{filter_map}
@@ -9,7 +9,6 @@ use Rattle.pool_outer.specs.declared.spawner.Launch.{Launch}
 use Rattle.claim_id.specs.declared.numbers.JobId.{JobId}
 use Rattle.claim_id.specs.declared.numbers.SlotId.{SlotId}
 use Rattle.pool_mail.specs.declared.end.End.{End}
-use Rattle.pool_view.specs.Numbers.{same_job}
 use Rattle.pool_view.proofs.Sameness.{same_job-same}
 use Rattle.thin_pool.specs.declared.answer.Kept.{Kept}
 use Rattle.thin_pool.specs.declared.answer.Kept.TheVariants as kept
@@ -17,7 +16,7 @@ use Rattle.thin_pool.specs.declared.event.Event.{Event}
 use Rattle.thin_pool.specs.declared.event.Event.TheVariants.{Submit, Start, Ended, Close}
 use Rattle.thin_pool.specs.declared.history.Step.{Step}
 use Rattle.thin_pool.specs.Histories.{submissions_in, submission_in}
-use Rattle.pool_input.specs.Submissions.{submit_step, submit_steps}
+use Rattle.pool_input.specs.Submissions.{submit_steps}
 use Rattle.pool_master.specs.Runs.{JobRun, end_in, first_end, end_after, run_begun, runs_in, HaveEnded}
 
 pub submits-more : (ss : List Step) (s : Step) → submissions_in (ss ++ s ∷ []) ≡ submissions_in ss ++ filter_map (λ (x : Step). submission_in x.event) (s ∷ [])

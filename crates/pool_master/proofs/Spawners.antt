@@ -6,7 +6,6 @@ use Rattle.std.proofs.lemmas.List.Elements.{filter-append}
 use Rattle.std.proofs.lemmas.List.Sums.{sum_by-append}
 use Rattle.std.proofs.lemmas.Option.{slice_get_within, slice_get-get_or}
 use Rattle.std.specs.List.{All}
-use Rattle.std.specs.List.{filter, count_by}
 use Rattle.std.specs.Option.{option_map}
 use Rattle.pool_outer.specs.declared.spawner.ChildState.{ChildState}
 use Rattle.pool_outer.specs.declared.spawner.Launch.{Launch}
@@ -16,8 +15,8 @@ use Rattle.claim_id.specs.declared.numbers.JobId.{JobId}
 use Rattle.claim_id.specs.declared.numbers.SlotId.{SlotId}
 use Rattle.pool_mail.specs.declared.end.End.{End}
 use Rattle.pool_mail.specs.declared.end.End.TheVariants.{Exited, Signalled, NotStarted}
-use Rattle.pool_master.specs.Runs.{JobRun, runs_on, has_ended, may_have_started, is_not_started, child_runs, possible_runs, not_started_count, HaveEnded, run_launches, IsLaunched, child_launch, child_state, IsSeen, EndAsSeen}
-use Rattle.pool_master.specs.Follows.{Serves, IsChildCount, Follows, HasLaunched, spawner_at, IsBetween, EachGoesOn, AreUntouched, StayUntouched, RunsOne, RunsChild, RunsNoChild}
+use Rattle.pool_master.specs.Runs.{JobRun, runs_on, has_ended, may_have_started, child_runs, possible_runs, not_started_count, HaveEnded, run_launches, IsLaunched, child_launch, child_state, IsSeen, EndAsSeen}
+use Rattle.pool_master.specs.Follows.{IsChildCount, Follows, HasLaunched, spawner_at, IsBetween, EachGoesOn, AreUntouched, StayUntouched, RunsOne, RunsChild, RunsNoChild}
 use Rattle.pool_master.specs.Seen.{SpawnerSeen}
 use Rattle.pool_master.proofs.RunLists.{run_with, ended_more}
 

@@ -1,5 +1,5 @@
 -- Nothing runs, and the spawners go on following the history.
-use Rattle.std.proofs.Common.{◌≡◌, ◌≤◌}
+use Rattle.std.proofs.Common.{◌≡◌}
 use Rattle.thin_pool.specs.Histories.{submissions_in}
 use Rattle.thin_pool.specs.Resting.{IsResting, idle_count}
 use Rattle.pool_input.specs.Readings.{AreRead}

@@ -1,4 +1,4 @@
-use Rattle.std.proofs.Common.{◌≡◌, ◌∙◌, List, slice_get, sym, ap, rules}
+use Rattle.std.proofs.Common.{◌∙◌, List, slice_get, sym, ap, rules}
 use Rattle.pool_master.proofs.Spawners.{lent_whole}
 use Rattle.pool_master.proofs.run.run_pool.Goals as goal
 

@@ -1,4 +1,4 @@
-use Rattle.std.proofs.Common.{◌≡◌, ◌∷◌, [], ◌≤◌, suc, length, string_bytes, rules, arith, ap}
+use Rattle.std.proofs.Common.{◌≡◌, ◌∷◌, [], suc, length, string_bytes, rules, arith, ap}
 use Rattle.thin_pool.specs.Events.{reading_of}
 use Rattle.pool_input.specs.Readings.{IsInCalendar}
 use Rattle.pool_master.specs.UserLog.{IsLines}
