@@ -5,14 +5,14 @@ use crate::readers::bad_form;
 use ad_eval::Steps;
 use ad_value::Memory;
 use cases::{Case, CaseError};
-use negotiate::{Snapshot, plain_cycle};
+use negotiate::{Snapshot, cycle, plain_cycle};
 use pool_mail::{Match, MatchList};
 use std::alloc::Global;
 use std::fmt::Write;
 use std::marker::Brand;
 use std::sync::ledger::{Blank, Ledger};
 
-/// The matches of a cycle of the snapshot.
+/// The matches of a cycle of the snapshot, or that its two bodies differ.
 pub(crate) fn answer_cycle(
     alloc: Global,
     case: Case<'_>,
@@ -22,20 +22,38 @@ pub(crate) fn answer_cycle(
     if !snapshot.is_negotiable() {
         return Err(bad_form(case));
     }
-    match matches_of(alloc, snapshot) {
-        Ok(matches) => write_matches(alloc, matches.as_slice(), out),
-        Err(Memory) => Err(CaseError::Memory),
+    let (Ok(plain), Ok(quick)) = (
+        plain_matches(alloc, snapshot),
+        quick_matches(alloc, snapshot),
+    ) else {
+        return Err(CaseError::Memory);
+    };
+    if !are_same(plain.as_slice(), quick.as_slice()) {
+        return Ok(out.push_str("differs")?);
     }
+    write_matches(alloc, quick.as_slice(), out)
 }
 
-// The matches. Their judgements are counted for themselves.
-fn matches_of(alloc: Global, snapshot: &Snapshot) -> Result<MatchList, Memory>
+// Whether both bodies made the same matches in the same order.
+fn are_same(plain: &[Match], quick: &[Match]) -> bool {
+    plain.len() == quick.len() && plain.iter().zip(quick.iter()).all(|(p, q)| p == q)
+}
+
+// The matches where each request looks at every slot.
+fn plain_matches(alloc: Global, snapshot: &Snapshot) -> Result<MatchList, Memory>
     requires { IsSnapshot snapshot.now }
 {
-    plain_matches::<Brand>(alloc, snapshot, Blank::new(1))
+    plain_counted::<Brand>(alloc, snapshot, Blank::new(1))
 }
 
-fn plain_matches<L: Ledger>(
+// The matches where one request of each autocluster is judged.
+fn quick_matches(alloc: Global, snapshot: &Snapshot) -> Result<MatchList, Memory>
+    requires { IsSnapshot snapshot.now }
+{
+    quick_counted::<Brand>(alloc, snapshot, Blank::new(1))
+}
+
+fn plain_counted<L: Ledger>(
     alloc: Global,
     snapshot: &Snapshot,
     blank: Blank,
@@ -47,6 +65,20 @@ fn plain_matches<L: Ledger>(
 {
     let mut steps = Steps::<L>::new(blank);
     plain_cycle(alloc, snapshot, &mut steps)
+}
+
+fn quick_counted<L: Ledger>(
+    alloc: Global,
+    snapshot: &Snapshot,
+    blank: Blank,
+) -> Result<MatchList, Memory>
+    requires name { blank.name ≡ L.name }
+    requires parts { blank.parts ≡ L.parts }
+    requires some { 0 < blank.parts }
+    requires snapshot { IsSnapshot snapshot.now }
+{
+    let mut steps = Steps::<L>::new(blank);
+    cycle(alloc, snapshot, &mut steps)
 }
 
 fn write_matches(alloc: Global, matches: &[Match], out: &mut String) -> Result<(), CaseError> {
