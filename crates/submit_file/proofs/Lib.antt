@@ -4,6 +4,7 @@ pub mod Kept
 pub mod Names
 pub mod OneResult
 pub mod OtherReadings
+pub mod Places
 pub mod Puts
 pub mod Readings
 pub mod Spared

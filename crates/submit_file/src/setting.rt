@@ -1,10 +1,12 @@
-ghost use Rattle.std.specs.Prelude.{◌≡◌, ◌≤◌, [], length, OnOk, OnErr};
-ghost use Rattle.std.specs.List.{position_or_len};
+ghost use Rattle.std.specs.Prelude.{◌≡◌, ◌≤◌, ◌++◌, ◌∷◌, [], false, length, string_bytes, OnOk, OnErr};
+ghost use Rattle.std.specs.List.{list_any, position_or_len};
 ghost use Rattle.std.specs.Option.{option_map};
-ghost use Rattle.ad_value.specs.Names.{same_name};
-ghost use Rattle.submit_file.specs.Settings.{with_setting, setting_of};
+ghost use Rattle.std.specs.Str.{bytes_eq};
+ghost use Rattle.ad_value.specs.Names.{lowercase};
+ghost use Rattle.submit_file.specs.Settings.{with_setting, setting_of, lowercase_names};
 
 use ad_value::{Memory, Text};
+use indexmap::IndexSet;
 use std::alloc::Global;
 use std::marker::Model;
 
@@ -18,18 +20,34 @@ pub(crate) struct Setting {
 }
 
 /// Settings in the order in which their names came; no two names are equal without case.
-#[derive(Debug, Drop)]
+///
+/// A look-up by name is fast where names do not collide. Names can be made to collide, and then it
+/// takes O(settings).
 pub(crate) struct Settings {
     items: Vec<Setting>,
+    /// The names in lower case, at the places of their settings.
+    names: IndexSet<String>,
+}
+
+impl Drop for Settings {
+    fn drop(self) {
+        let Settings {
+            items: _items,
+            names: _names,
+        } = self;
+    }
 }
 
 impl Model for Settings {
-    ghost use Rattle.std.specs.Prelude.{List};
+    ghost use Rattle.std.specs.Prelude.{◌≡◌, List, map, string_bytes};
     ghost use Rattle.submit_file.specs.declared.setting.Setting.{Setting};
+    ghost use Rattle.submit_file.specs.Settings.{lowercase_names};
 
     ghost Value = { List Setting };
 
     ghost view = { λ s. s.items.items };
+
+    ghost invariant = { λ s. map string_bytes s.names.keys ≡ lowercase_names s.items.items };
 }
 
 impl Settings {
@@ -39,6 +57,7 @@ impl Settings {
     {
         Settings {
             items: Vec::new(alloc),
+            names: IndexSet::new(alloc),
         }
     }
 
@@ -49,23 +68,30 @@ impl Settings {
         self.items.as_slice()
     }
 
-    /// The setting of a name, without memory. Computes in O(settings).
+    /// The setting of a name that is given in lower case, without memory. Computes in O(bytes)
+    /// where names do not collide.
     pub(crate) fn get(&self, name: &str) -> Option<&Setting>
+        requires { lowercase name.now ≡ name.now }
         ensures { option_map (λ s. s.now) result ≡ setting_of name.now self.now }
     {
-        self.items.iter().find(|s| s.is_of(name))
+        self.items.get(self.place(name))
     }
 
-    // How many settings stand before that of a name.
+    // How many settings stand before that of a name that is given in lower case.
     fn place(&self, name: &str) -> usize
-        ensures value { result ≡ position_or_len (λ s. same_name s.name name.now) self.now }
+        ensures value { result
+            ≡ position_or_len (λ s. bytes_eq (lowercase s.name) name.now) self.now }
         ensures within { result ≤ length self.now }
     {
-        self.items.iter().take_while(|s| !s.is_of(name)).count()
+        match self.names.get_index_of(name) {
+            Some(place) => place,
+            None => self.items.len(),
+        }
     }
 
     /// Puts a value under a name. A name that is there keeps its place and spelling, and gets the
-    /// value and the line. Computes in O(settings). An error leaves the settings as they were.
+    /// value and the line. Computes in O(bytes of both) where names do not collide. An error leaves
+    /// the settings as they were.
     #[tactic(auto, using(crate::proofs::Puts::puts))]
     pub(crate) fn put(
         &mut self,
@@ -77,8 +103,9 @@ impl Settings {
         ensures ok { OnOk result (self.new ≡ with_setting name.now value.now line self.old) }
         ensures err { OnErr result (self.new ≡ self.old) }
     {
+        let key = name.to_ascii_lowercase(alloc)?;
         let value = Text::from_str(alloc, value)?;
-        let place = self.place(name);
+        let place = self.place(key.as_str());
         if place < self.items.len() {
             let setting = &mut self.items[place];
             setting.value = value;
@@ -86,16 +113,19 @@ impl Settings {
             return Ok(());
         }
         let name = Text::from_str(alloc, name)?;
-        self.items.push(Setting { name, value, line })?;
-        Ok(())
+        self.add(key, Setting { name, value, line })
     }
-}
 
-impl Setting {
-    // Whether the setting is that of a name.
-    fn is_of(&self, name: &str) -> bool
-        ensures { result ≡ same_name self.now.name name.now }
+    // Adds the setting of a new name, which is also given in lower case.
+    fn add(&mut self, key: String, setting: Setting) -> Result<(), Memory>
+        requires named { string_bytes key ≡ lowercase setting.name }
+        requires new { list_any (bytes_eq (string_bytes key)) (lowercase_names self.old) ≡ false }
+        ensures ok { OnOk result (self.new ≡ self.old ++ setting ∷ []) }
+        ensures err { OnErr result (self.new ≡ self.old) }
     {
-        self.name.as_str().eq_ignore_ascii_case(name)
+        self.items.reserve(1)?;
+        self.names.insert(key)?;
+        self.items.push(setting).unwrap();
+        Ok(())
     }
 }

@@ -24,7 +24,8 @@ pub(crate) enum Source<'a> {
 }
 
 impl<'a> Source<'a> {
-    /// What the file sets for the attribute, without memory. Computes in O(settings).
+    /// What the file sets for the attribute, without memory. Computes in O(1) where names do not
+    /// collide.
     pub(crate) fn setting(self, file: &'a LinesSoFar) -> Option<&'a Setting>
         ensures { option_map (λ s. s.now) result
             ≡ setting_for file.entry.now (origin_of self.entry) }

@@ -54,8 +54,8 @@ pub(crate) enum Contribution<'a> {
 }
 
 impl<'a> Statement<'a> {
-    /// What a source gives over macros. Computes in O(settings, bytes of what is set, of the macros
-    /// and of the canonical text) where names do not collide.
+    /// What a source gives over macros. Computes in O(bytes of what is set, of the macros and of
+    /// the canonical text) where names do not collide.
     pub(crate) fn contribution(
         self,
         alloc: Global,
