@@ -19,5 +19,5 @@ returns-clause-ok c =
     let past : length c.args.self.now ≤ c.place-place.result = search rules in
     then_ok c.add.result
     (add_copied c.args.name.now c.args.value.now _ _ c.args.line c.place-place.result c.args.self.now c.args.self.now c.add.new.self refl c.in_ok-name.ensures c.in_ok-value.ensures
-      (c.place-place.ensures.value ∙ ap (λ x. place_of x c.args.self.now) (c.as_str.ensures.value ∙ c.in_ok-key.ensures.ok)) past)
+    (c.place-place.ensures.value ∙ ap (λ x. place_of x c.args.self.now) (c.as_str.ensures.value ∙ c.in_ok-key.ensures.ok)) past)
     c.add.ensures.ok
