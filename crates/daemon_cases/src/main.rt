@@ -3,14 +3,12 @@
 //!
 //! `next PAIR CUE`, `claim TEXT`, `claim-text MACHINE SLOT BOOT SEQ SECRET`, `job TEXT`,
 //! `job-text CLUSTER PROC`, `safe PART ..`, and the mails, ends of runs, ticks and boots of a
-//! startd, or the mails, ticks, checks, transactions and crashes of a schedd: README.md says what
-//! each answers.
+//! startd: README.md says what each answers.
 #![tactic(auto)]
 
 mod answers;
 mod judging;
 mod pairs;
-mod schedds;
 mod startds;
 mod texts;
 mod views;

@@ -55,7 +55,7 @@ pub(crate) fn new_startd(alloc: Global, case: Case<'_>) -> Result<Startd, CaseEr
 }
 
 // Seconds of which there is at least one.
-pub(crate) fn interval(case: Case<'_>, field: &str) -> Result<u64, CaseError>
+fn interval(case: Case<'_>, field: &str) -> Result<u64, CaseError>
     ensures { IfOk result (λ n. (0 < n) × (n ≤ MAX_SECONDS)) }
 {
     match case.natural(field) {
@@ -131,14 +131,14 @@ pub(crate) fn answer_startd(
     }
 }
 
-pub(crate) fn at_line<T: Drop>(case: Case<'_>, read: Result<T, TextError>) -> Result<T, CaseError> {
+fn at_line<T: Drop>(case: Case<'_>, read: Result<T, TextError>) -> Result<T, CaseError> {
     match read {
         Ok(value) => Ok(value),
         Err(error) => Err(error.at_line(case.line)),
     }
 }
 
-pub(crate) fn or_memory<T: Drop>(made: Result<T, Memory>) -> Result<T, CaseError> {
+fn or_memory<T: Drop>(made: Result<T, Memory>) -> Result<T, CaseError> {
     match made {
         Ok(value) => Ok(value),
         Err(Memory) => Err(CaseError::Memory),
@@ -188,11 +188,7 @@ fn write_step(
     Ok(())
 }
 
-pub(crate) fn write_mails(
-    alloc: Global,
-    mails: &[Mail],
-    out: &mut String,
-) -> Result<(), AllocError> {
+fn write_mails(alloc: Global, mails: &[Mail], out: &mut String) -> Result<(), AllocError> {
     out.push_str("ok")?;
     for mail in mails {
         out.push('\t')?;
