@@ -6,6 +6,7 @@ pub mod Starts
 pub mod KeepsReactions
 pub mod CueRows
 pub mod OverRows
+pub mod NamedRows
 pub mod MoveRows
 pub mod MayRows
 pub mod MoveMails

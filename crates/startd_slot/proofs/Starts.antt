@@ -5,6 +5,7 @@ use Rattle.ad_tree.specs.Ad.{Attributes}
 use Rattle.ad_eval.specs.Judgement.{Judgement}
 use Rattle.claim_id.specs.declared.numbers.JobId.{JobId}
 use Rattle.claim_id.specs.declared.numbers.RunNo.{RunNo}
+use Rattle.job_launch.specs.Launches.{launch_of}
 use Rattle.pool_mail.specs.declared.mail.Mail.TheVariants.{Update, Matched, Ask, Granted, Denied, Activate, Alive, Seen, Stop, Release, Gone, Ended, Remove, Hold, Resume}
 use Rattle.pool_outer.specs.declared.spawner.Launch.{Launch}
 use Rattle.startd_slot.specs.declared.ask.AskRow.{AskRow}
@@ -12,6 +13,7 @@ use Rattle.startd_slot.specs.declared.ask.AskRow.TheVariants as asked_row
 use Rattle.startd_slot.specs.declared.ask.Asked.{Asked}
 use Rattle.startd_slot.specs.declared.held.Held.{Held}
 use Rattle.startd_slot.specs.declared.held.Running.{Running}
+use Rattle.startd_slot.specs.declared.reaction.Task.TheVariants as task
 use Rattle.startd_slot.specs.declared.run_mails.Activation.{Activation}
 use Rattle.startd_slot.specs.declared.run_mails.ActivateRow.{ActivateRow}
 use Rattle.startd_slot.specs.declared.run_mails.ActivateRow.TheVariants as row
@@ -107,28 +109,39 @@ stop_starts_none known.OfHeldClaim run s h = h
 stop_starts_none known.Spent run s h = h
 stop_starts_none known.Unknown run s h = h
 
+pub launch_is : (r : ActivateRow) (a : Activation) (what : Launch) (judged : Option Judgement) (reading : ℕ) (s : SlotState)
+    → IsLaunch (after_activate_row r a what judged reading s).task → (after_activate_row r a what judged reading s).task ≡ task.Launch a.run a.job what
+launch_is (row.NotHeld spent) a what judged reading s h = absurd h
+launch_is (row.Spent last) a what judged reading s h = absurd h
+launch_is (row.Occupied run) a what judged reading s h = absurd h
+launch_is row.Past a what judged reading s h = absurd h
+launch_is row.NotMatched a what judged reading s h = absurd h
+launch_is row.Starts a what None reading s h = absurd h
+launch_is row.Starts a what (Some j) reading s h = refl
+
 activate_starts : (boot : ℕ) (slot : Slot) (run : RunNo) (job : JobId) (ad : Attributes) (until : ℕ)
     (judged : Option Judgement) (reading : ℕ)
     → IsLaunch (reaction_to boot slot (Activate run job ad until) judged reading).task
-    → IsReadyFor slot.state run × (reading < until) × IsSome judged
+    → (IsReadyFor slot.state run × (reading < until) × IsSome judged)
+    × ((reaction_to boot slot (Activate run job ad until) judged reading).task ≡ task.Launch run job (launch_of ad))
 unfolding reaction_to
 activate_starts boot slot run job ad until judged reading h =
     let asked : Activation = record { run = run; job = job; until = until } in
-    let starts = launch_starts (activate_row slot.state boot asked (is_some judged) reading)
-    asked _ judged reading _ h in
+    let fitting = activate_row slot.state boot asked (is_some judged) reading in
+    let starts = launch_starts fitting asked _ judged reading _ h in
     let fits = held_starts (held_of slot.state run.claim) _ asked (is_some judged) reading starts.0
     in
-    (fits.0, fits.1, starts.1)
+    ((fits.0, fits.1, starts.1), launch_is fitting asked _ judged reading _ h)
 
 pub runs_start_matched : RunsStartMatched
 unfolding reaction_to
 runs_start_matched boot slot (Activate run job ad until) judged reading h =
     activate_starts boot slot run job ad until judged reading h
 runs_start_matched boot slot (Ask claim job ad by_priority) judged reading h =
-    ask_starts_none _ _ _ _ _ _ h
+    absurd (ask_starts_none _ _ _ _ _ _ h)
 runs_start_matched boot slot (Alive run until) judged reading h =
-    alive_starts_none _ run until reading _ h
-runs_start_matched boot slot (Stop run) judged reading h = stop_starts_none _ run _ h
+    absurd (alive_starts_none _ run until reading _ h)
+runs_start_matched boot slot (Stop run) judged reading h = absurd (stop_starts_none _ run _ h)
 runs_start_matched boot slot (Update s) judged reading h = absurd h
 runs_start_matched boot slot (Matched found) judged reading h = absurd h
 runs_start_matched boot slot (Granted claim job) judged reading h = absurd h

@@ -2,6 +2,7 @@
 use Rattle.std.specs.Prelude.{◌≡◌, ℕ, ◌<◌, Option, None, IsSome, IsSomeAnd}
 use Rattle.ad_eval.specs.Judgement.{Judgement}
 use Rattle.claim_id.specs.declared.numbers.RunNo.{RunNo}
+use Rattle.job_launch.specs.Launches.{launch_of}
 use Rattle.pool_mail.specs.declared.mail.Mail.{Mail}
 use Rattle.pool_mail.specs.declared.mail.Mail.TheVariants.{Activate}
 use Rattle.startd_slot.specs.declared.reaction.Task.{Task}
@@ -27,8 +28,14 @@ StartsRun s (Activate run job ad until) judged reading =
     IsReadyFor s run × (reading < until) × IsSome judged
 StartsRun s _ judged reading = ⊥
 
+-- what an Activate starts: its run, of its job, by its ad
+abbrev pub activated : Mail → Task
+activated (Activate run job ad until) = Launch run job (launch_of ad)
+activated _ = Nothing
+
 -- nothing else starts a run
 abbrev pub RunsStartMatched : Type 0
 RunsStartMatched = (boot : ℕ) (slot : Slot) (mail : Mail) (judged : Option Judgement) (reading : ℕ)
     → IsLaunch (reaction_to boot slot mail judged reading).task
     → StartsRun slot.state mail judged reading
+    × ((reaction_to boot slot mail judged reading).task ≡ activated mail)

@@ -10,18 +10,20 @@ ghost use Rattle.pool_protocol.specs.ProtocolMove.{MayAll};
 ghost use Rattle.pool_protocol.specs.SlotPart.{IsPart, part_after_all};
 ghost use Rattle.pool_view.specs.Safe.{Safe};
 ghost use Rattle.startd_slot.specs.declared.slot.Slot.{Slot};
+ghost use Rattle.startd_slot.specs.declared.slot.SlotState.{SlotState};
 ghost use Rattle.startd_slot.specs.Consistent.{IsConsistent, IsSettled};
 ghost use Rattle.startd_slot.specs.Cues.{cue_of_mail, cue_of_end, LeadsTo};
 ghost use Rattle.startd_slot.specs.EndingTable.{after_ending};
 ghost use Rattle.startd_slot.specs.Mails.{asked_claim, reaction_to};
-ghost use Rattle.startd_slot.specs.Over.{SayOnlyOver};
+ghost use Rattle.startd_slot.specs.Over.{SayOnlyOver, SayOver, named_run};
 ghost use Rattle.startd_slot.specs.SlotMoves.{IsJudgedHere, IsTold, moves_of_end, moves_of_mail, part_of};
 ghost use Rattle.startd_slot.specs.SlotStates.{runs_on};
 ghost use Rattle.startd_slot.specs.Starting.{RunsStartMatched};
 
 /// A run is started by an Activate alone, under the claim that its slot holds, with a number above
 /// all that the claim has used, where the slot has no run, while its lease is to come, and by a
-/// match of its job's ad and the slot's.
+/// match of its job's ad and the slot's. It is the run and the job that the Activate names, and
+/// what its ad says.
 pub fn runs_start_matched()
     ensures { RunsStartMatched }
 {}
@@ -51,7 +53,8 @@ pub fn cues_are_known()
         (after_ending ending reading slot.state).state.pair }
 {}
 
-/// A Gone or an Ended is sent only of a run that can start no more and is not on the slot.
+/// A Gone or an Ended is sent only of a run that can start no more and is not on the slot, and only
+/// of the run that the mail names, or that has ended.
 pub fn only_past_runs_are_said_over()
     ensures mails { (boot : ℕ) (slot : Slot) (mail : Mail) (judged : Option Judgement)
         (reading : ℕ) → IsConsistent boot slot.id slot.state
@@ -61,6 +64,13 @@ pub fn only_past_runs_are_said_over()
         → runs_on slot.state ending.run ≡ true → IsConsistent boot slot.id slot.state
         → SayOnlyOver boot (after_ending ending reading slot.state).state
         (after_ending ending reading slot.state).mails }
+
+    // Of which run.
+    ensures mails_named { (boot : ℕ) (slot : Slot) (mail : Mail) (judged : Option Judgement)
+        (reading : ℕ) → SayOver (λ run. named_run mail ≡ Some run)
+        (reaction_to boot slot mail judged reading).mails }
+    ensures ends_named { (s : SlotState) (ending : Ending) (reading : ℕ)
+        → SayOver (λ run. run ≡ ending.run) (after_ending ending reading s).mails }
 {}
 
 /// What a mail makes of the slot of which it speaks is the moves of the protocol that are named for
