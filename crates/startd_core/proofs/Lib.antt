@@ -5,3 +5,6 @@ pub mod Sounds
 pub mod TimeRows
 pub mod Telling
 pub mod Stays
+pub mod SaidOver
+pub mod PermitRows
+pub mod Entering

@@ -3,6 +3,7 @@ use Rattle.std.proofs.Common.{◌≡◌, ℕ, Bool, true, false, List, [], ◌�
 use Rattle.ad_tree.specs.Ad.{Attributes}
 use Rattle.ad_eval.specs.Judgement.{Judgement}
 use Rattle.claim_id.specs.declared.numbers.ClaimId.{ClaimId}
+use Rattle.claim_id.specs.declared.numbers.RunNo.{RunNo}
 use Rattle.claim_id.specs.declared.numbers.SlotId.{SlotId}
 use Rattle.pool_mail.specs.declared.end.Ending.{Ending}
 use Rattle.pool_mail.specs.declared.mail.Mail.{Mail}
@@ -12,7 +13,7 @@ use Rattle.startd_slot.specs.declared.slot.Slot.{Slot}
 use Rattle.startd_slot.specs.declared.slot.SlotState.{SlotState}
 use Rattle.startd_slot.specs.EndingTable.{after_ending}
 use Rattle.startd_slot.specs.Mails.{reaction_to}
-use Rattle.startd_slot.specs.Over.{IsOver, run_said_over, SayOnlyOver}
+use Rattle.startd_slot.specs.Over.{IsOver, run_said_over, SayOver, SayOnlyOver}
 use Rattle.startd_slot.specs.SlotMoves.{part_of, part_of_state}
 use Rattle.startd_slot.specs.SlotStates.{is_open, runs_on, slot_after_boot}
 use Rattle.startd_slot.proofs.OverRows.{mail_over, end_over}
@@ -55,9 +56,19 @@ booted_part boot slot reading t =
     told_part boot slot (record { state = slot_after_boot reading; offers = t.offers }) t.mails (has_changed slot.state (slot_after_boot reading)) reading
 
 -- ---- runs that are over
-append_over : (boot : ℕ) (s : SlotState) (mails : List Mail) (mail : Mail) → SayOnlyOver boot s mails → IfSome (run_said_over mail) (IsOver boot s) → SayOnlyOver boot s (mails ++ mail ∷ [])
-append_over boot s [] mail all one = (one, tt)
-append_over boot s (x ∷ xs) mail all one = (all.0, append_over boot s xs mail all.1 one)
+one_more : (Is : RunNo → Type 0) (mails : List Mail) (mail : Mail) → SayOver Is mails → IfSome (run_said_over mail) Is → SayOver Is (mails ++ mail ∷ [])
+one_more Is [] mail all one = (one, tt)
+one_more Is (x ∷ xs) mail all one = (all.0, one_more Is xs mail all.1 one)
+
+-- an Update says of no run that it is over
+pub told_says : (Is : RunNo → Type 0) (slot : Slot) (s : Settled) (mails : List Mail) (tells : Bool) (reading : ℕ) → SayOver Is mails → SayOver Is (told slot s mails tells reading).mails
+told_says Is slot s mails true reading all = one_more Is mails (update_of slot (with_told reading s.state) reading) all tt
+told_says Is slot s mails false reading all = all
+
+pub concluded_says : (Is : RunNo → Type 0) (m : Machine) (slot : Slot) (offers : ℕ) (r : Reaction) (reading : ℕ) → SayOver Is r.mails → SayOver Is (concluded m slot offers r reading).mails
+concluded_says Is m slot offers r reading all =
+    let s = settled m slot.id r.state offers in
+    told_says Is slot s r.mails (has_changed slot.state s.state) reading all
 
 settled_over : (boot : ℕ) (m : Machine) (slot : SlotId) (s : SlotState) (offers : ℕ) (mails : List Mail) → SayOnlyOver boot s mails → SayOnlyOver boot (settled m slot s offers).state mails
 settled_over boot m slot s offers mails over = by_open (is_open s.pair)
@@ -71,7 +82,7 @@ settled_over boot m slot s offers mails over = by_open (is_open s.pair)
     by_open false = over
 
 told_over : (boot : ℕ) (slot : Slot) (s : Settled) (mails : List Mail) (tells : Bool) (reading : ℕ) → SayOnlyOver boot s.state mails → SayOnlyOver boot (told slot s mails tells reading).state (told slot s mails tells reading).mails
-told_over boot slot s mails true reading over = append_over boot (with_told reading s.state) mails (update_of slot (with_told reading s.state) reading) over tt
+told_over boot slot s mails true reading over = one_more (IsOver boot (with_told reading s.state)) mails (update_of slot (with_told reading s.state) reading) over tt
 told_over boot slot s mails false reading over = over
 
 concluded_over : (m : Machine) (slot : Slot) (offers : ℕ) (r : Reaction) (reading : ℕ) → SayOnlyOver m.boot r.state r.mails → SayOnlyOver m.boot (concluded m slot offers r reading).state (concluded m slot offers r reading).mails

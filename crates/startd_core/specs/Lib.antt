@@ -4,3 +4,6 @@ pub mod Sound
 pub mod TickTable
 pub mod TimeMoves
 pub mod Startds
+pub mod DueTicks
+pub mod OverHere
+pub mod Permits

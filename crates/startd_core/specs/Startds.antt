@@ -1,5 +1,5 @@
 -- A machine's startd: what it keeps, and what each event makes of it.
-use Rattle.std.specs.Prelude.{ℕ, ◌+◌, ◌-◌, ◌==◌, Bool, true, false, not, ◌&&◌, ◌||◌, List, [], ◌∷◌, ◌++◌, length, slice_get, slice_set, Option, Some, None, nat_le, nat_lt, if◌then◌else◌}
+use Rattle.std.specs.Prelude.{ℕ, ◌+◌, ◌-◌, ◌==◌, Bool, false, ◌&&◌, ◌||◌, List, [], ◌∷◌, ◌++◌, length, slice_get, slice_set, Option, Some, None, nat_le, nat_lt, if◌then◌else◌}
 use Rattle.ad_tree.specs.Ad.{Attributes}
 use Rattle.ad_eval.specs.Judgement.{Judgement}
 use Rattle.claim_id.specs.declared.numbers.ClaimNo.{ClaimNo}
@@ -25,7 +25,7 @@ use Rattle.startd_slot.specs.EndingTable.{after_ending}
 use Rattle.startd_core.specs.Offers.{Settled, settled, update_of, with_told, has_changed, has_entered}
 use Rattle.startd_slot.specs.Mails.{asked_claim, reaction_to, is_judged}
 use Rattle.startd_slot.specs.SlotStates.{slot_after_boot, runs_on}
-use Rattle.startd_core.specs.TickTable.{is_act, is_update_due, looks_at_start, slot_row, after_tick_row, killed_by}
+use Rattle.startd_core.specs.TickTable.{is_update_due, slot_row, after_tick_row, killed_by}
 
 pub record StartdValue : Type 0 where
   pub machine : Machine
@@ -34,6 +34,16 @@ pub record StartdValue : Type 0 where
   pub slots : List Slot  -- in order, with the numbers from 1
   pub ticked : Option ℕ  -- the reading of the last tick of this boot
   pub restless : Bool  -- a slot entered Owner, Retiring or Vacating in the last tick or after it
+
+abbrev pub startd_value : Machine → Settings → ℕ → List Slot → Option ℕ → Bool → StartdValue
+startd_value m set offers slots ticked restless = record {
+  machine = m;
+  settings = set;
+  offers = offers;
+  slots = slots;
+  ticked = ticked;
+  restless = restless;
+}
 
 -- one more slot, in Owner/Idle
 abbrev pub with_slot : List ℕ → Attributes → StartdValue → StartdValue
@@ -126,22 +136,23 @@ after_made v place made = record {
 
 -- ---- a mail is received
 -- a slot that the machine doesn't have knows of no claim
-abbrev pub nowhere : StartdValue → ℕ → Slot
-nowhere v reading = record {
-  id = record { machine = v.machine.number; slot = 0 };
+abbrev pub nowhere : Machine → ℕ → Slot
+nowhere m reading = record {
+  id = record { machine = m.number; slot = 0 };
   name = [];
   ad = [];
   state = slot_after_boot reading;
 }
 
-abbrev pub after_stranger : StartdValue → Mail → ℕ → After
-after_stranger v mail reading = record {
-  startd = v;
-  step = record {
-    mails = (reaction_to v.machine.boot (nowhere v reading) mail None reading).mails;
-    answer = answer.Done;
-  };
+abbrev pub stranger_step : Machine → Mail → ℕ → StartdStep
+stranger_step m mail reading = record {
+  mails = (reaction_to m.boot (nowhere m reading) mail None reading).mails;
+  answer = answer.Done;
 }
+
+abbrev pub after_stranger : StartdValue → Mail → ℕ → After
+after_stranger v mail reading =
+    record { startd = v; step = stranger_step v.machine mail reading }
 
 abbrev pub received_at : StartdValue → ℕ → Option Slot → Mail → Option Judgement → ℕ → After
 received_at v place None mail judged reading = unmoved v
@@ -256,39 +267,6 @@ after_ticks v t reading = record {
 abbrev pub after_tick : StartdValue → ℕ → After
 after_tick v reading = after_ticks v
     (after_slots v.machine v.settings v.slots reading (no_ticks v.offers)) reading
-
--- ---- when a tick is due
-abbrev pub is_slot_due : Slot → Settings → ℕ → Bool
-is_slot_due slot set reading =
-    is_update_due slot.state set reading || is_act (slot_row slot set reading)
-
-abbrev pub is_any_due : List Slot → Settings → ℕ → Bool
-is_any_due [] set reading = false
-is_any_due (slot ∷ slots) set reading =
-    is_slot_due slot set reading || is_any_due slots set reading
-
-abbrev pub is_due_after : Option ℕ → StartdValue → ℕ → Bool
-is_due_after None v reading = true
-is_due_after (Some ticked) v reading = v.restless
-    || (nat_lt ticked reading && is_any_due v.slots v.settings reading)
-
--- at the first turn after a boot; where a slot entered Owner, Retiring or Vacating in the last tick
--- or after it; at a later reading, where a cue or an Update would come
-abbrev pub is_due : StartdValue → ℕ → Bool
-is_due v reading = is_due_after v.ticked v reading
-
--- a tick would look at the Start of one of the slots
-abbrev pub is_start_seen : List Slot → Bool
-is_start_seen [] = false
-is_start_seen (slot ∷ slots) = looks_at_start slot.state.pair || is_start_seen slots
-
--- the reading isn't later than that of the last tick, and nothing was entered since
-abbrev pub is_early_after : Option ℕ → StartdValue → ℕ → Bool
-is_early_after None v reading = false
-is_early_after (Some ticked) v reading = not v.restless && not (nat_lt ticked reading)
-
-abbrev pub is_early : StartdValue → ℕ → Bool
-is_early v reading = is_early_after v.ticked v reading
 
 -- ---- the machine boots
 abbrev pub booted_slot : Slot → ℕ → Ticks → Conclusion

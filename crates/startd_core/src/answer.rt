@@ -1,9 +1,11 @@
 ghost use Rattle.std.specs.Prelude.{◌≡◌};
+ghost use Rattle.startd_core.specs.Startds.{nothing_done, kill_answer};
 
 use ad_value::Seq;
 use claim_id::{JobId, RunNo};
 use pool_mail::MailList;
 use pool_outer::Launch;
+use std::alloc::Global;
 
 /// Leave to start a run, which only an accepted Activate gives, and which can't be let go but by
 /// `spend`.
@@ -65,4 +67,25 @@ pub enum StartdAnswer {
 pub struct StartdStep {
     pub mails: MailList,
     pub answer: StartdAnswer,
+}
+
+/// Nothing is sent or done.
+pub(crate) fn nothing_done(alloc: Global) -> StartdStep
+    ensures { result ≡ nothing_done }
+{
+    StartdStep {
+        mails: MailList::new(alloc),
+        answer: StartdAnswer::Done,
+    }
+}
+
+/// The runs are to be killed, where there are some.
+pub(crate) fn kill_answer(runs: RunList) -> StartdAnswer
+    ensures { result ≡ kill_answer runs }
+{
+    if runs.is_empty() {
+        StartdAnswer::Done
+    } else {
+        StartdAnswer::Kill { runs }
+    }
 }

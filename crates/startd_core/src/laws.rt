@@ -1,6 +1,6 @@
 //! What holds of every startd.
 
-ghost use Rattle.std.specs.Prelude.{◌≡◌, ℕ, ◌<◌, true, List, [], Option};
+ghost use Rattle.std.specs.Prelude.{◌≡◌, ℕ, ◌<◌, ◌||◌, List, [], None, Option, IfSome};
 ghost use Rattle.ad_tree.specs.Ad.{Attributes};
 ghost use Rattle.ad_eval.specs.Judgement.{Judgement};
 ghost use Rattle.pool_mail.specs.declared.end.Ending.{Ending};
@@ -14,15 +14,15 @@ ghost use Rattle.startd_slot.specs.declared.reaction.Reaction.{Reaction};
 ghost use Rattle.startd_slot.specs.declared.slot.Slot.{Slot};
 ghost use Rattle.startd_slot.specs.Consistent.{IsConsistent};
 ghost use Rattle.startd_slot.specs.Cues.{LeadsTo};
-ghost use Rattle.startd_slot.specs.EndingTable.{after_ending};
-ghost use Rattle.startd_slot.specs.Mails.{reaction_to};
-ghost use Rattle.startd_slot.specs.Over.{SayOnlyOver};
 ghost use Rattle.startd_slot.specs.SlotMoves.{moves_of_boot, part_of};
-ghost use Rattle.startd_slot.specs.SlotStates.{runs_on, slot_after_boot};
+ghost use Rattle.startd_slot.specs.SlotStates.{slot_after_boot};
 ghost use Rattle.startd_core.specs.declared.offers.Machine.{Machine};
 ghost use Rattle.startd_core.specs.declared.tick.TickRow.{TickRow};
 ghost use Rattle.startd_core.specs.declared.ticks.Ticks.{Ticks};
-ghost use Rattle.startd_core.specs.Sound.{IsSlotAt, IsSound};
+ghost use Rattle.startd_core.specs.DueTicks.{has_any_entered};
+ghost use Rattle.startd_core.specs.OverHere.{SaysOnlyOver};
+ghost use Rattle.startd_core.specs.Permits.{GivesPermit, permit_in};
+ghost use Rattle.startd_core.specs.Sound.{IsSound};
 ghost use Rattle.startd_core.specs.Startds.{StartdValue, after_end, after_mail, after_reboot, after_tick, booted_slot, concluded, ticked_slot, with_slot};
 ghost use Rattle.startd_core.specs.TickTable.{after_tick_row, slot_row};
 ghost use Rattle.startd_core.specs.TimeMoves.{cue_of_tick, moves_of_tick};
@@ -88,17 +88,40 @@ pub fn offers_and_updates_are_no_moves()
         ≡ part_of boot (record slot { state = slot_after_boot reading }) }
 {}
 
-/// A Gone or an Ended is sent only of a run that can start no more and is not on the slot, as the
-/// slot then stands.
+/// That a startd is restless says that a slot entered Owner, Retiring or Vacating in the last tick
+/// or after it: a tick says it of itself alone, and each event after it adds what it does.
+pub fn restless_startds_have_entered()
+    ensures ticks { (v : StartdValue) (reading : ℕ) → (after_tick v reading).startd.restless
+        ≡ has_any_entered v.slots (after_tick v reading).startd.slots }
+    ensures mails { (v : StartdValue) (mail : Mail) (judged : Option Judgement) (reading : ℕ)
+        → (after_mail v mail judged reading).startd.restless ≡ (v.restless
+        || has_any_entered v.slots (after_mail v mail judged reading).startd.slots) }
+    ensures ends { (v : StartdValue) (ending : Ending) (reading : ℕ)
+        → (after_end v ending reading).startd.restless ≡ (v.restless
+        || has_any_entered v.slots (after_end v ending reading).startd.slots) }
+{}
+
+/// A Gone or an Ended is sent only of a run that can start no more and is on no slot of the
+/// machine, as the startd stands after the event. Of a slot that the machine lacks, that is a run
+/// of an earlier boot, or one of the seq 0, which no claim has.
 pub fn only_past_runs_are_said_over()
-    ensures mails { (m : Machine) (place : ℕ) (slot : Slot) (offers : ℕ) (mail : Mail)
-        (judged : Option Judgement) (reading : ℕ) → IsSlotAt m place slot
-        → SayOnlyOver m.boot
-        (concluded m slot offers (reaction_to m.boot slot mail judged reading) reading).state
-        (concluded m slot offers (reaction_to m.boot slot mail judged reading) reading).mails }
-    ensures ends { (m : Machine) (place : ℕ) (slot : Slot) (offers : ℕ) (ending : Ending)
-        (reading : ℕ) → runs_on slot.state ending.run ≡ true → IsSlotAt m place slot
-        → SayOnlyOver m.boot
-        (concluded m slot offers (after_ending ending reading slot.state) reading).state
-        (concluded m slot offers (after_ending ending reading slot.state) reading).mails }
+    ensures mails { (v : StartdValue) (mail : Mail) (judged : Option Judgement) (reading : ℕ)
+        → IsSound v → SaysOnlyOver (after_mail v mail judged reading) }
+    ensures ends { (v : StartdValue) (ending : Ending) (reading : ℕ) → IsSound v
+        → SaysOnlyOver (after_end v ending reading) }
+    ensures ticks { (v : StartdValue) (reading : ℕ) → SaysOnlyOver (after_tick v reading) }
+    ensures boots { (v : StartdValue) (reading : ℕ) → SaysOnlyOver (after_reboot v reading) }
+{}
+
+/// A Permit comes of an accepted Activate alone, and is of its run, its job and what its ad says.
+pub fn permits_come_of_activates()
+    ensures mails { (v : StartdValue) (mail : Mail) (judged : Option Judgement) (reading : ℕ)
+        → IfSome (permit_in (after_mail v mail judged reading).step.answer)
+        (GivesPermit v mail judged reading) }
+    ensures ends { (v : StartdValue) (ending : Ending) (reading : ℕ)
+        → permit_in (after_end v ending reading).step.answer ≡ None }
+    ensures ticks { (v : StartdValue) (reading : ℕ)
+        → permit_in (after_tick v reading).step.answer ≡ None }
+    ensures boots { (v : StartdValue) (reading : ℕ)
+        → permit_in (after_reboot v reading).step.answer ≡ None }
 {}

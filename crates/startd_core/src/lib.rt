@@ -4,15 +4,16 @@
 
 mod answer;
 mod conclude;
+mod due;
 pub mod laws;
 mod offers;
-mod parts;
 mod secret;
 mod startd;
 mod tick;
 mod ticks;
 
 pub use answer::{Permit, RunList, StartdAnswer, StartdStep};
+pub use due::is_tick_tried;
 pub use secret::secret_of;
 pub use startd::Startd;
 pub use startd_slot::{Held, Mark, Rival, Running, Slot, SlotState};

@@ -1,27 +1,49 @@
-ghost use Rattle.std.specs.Prelude.{◌≡◌, ◌⊎◌, [], true, false, None, IfOk, OnErr};
+ghost use Rattle.std.specs.Prelude.{◌≡◌, ◌<◌, ◌||◌, [], true, false, length, None, Some, slice_get, slice_set, IfOk, OnSome, OnErr};
+ghost use Rattle.std.specs.Option.{option_copied};
+ghost use Rattle.startd_slot.specs.declared.slot.Slot.{Slot};
+ghost use Rattle.startd_core.specs.DueTicks.{is_due, hangs_on_start};
+ghost use Rattle.startd_core.specs.Offers.{has_entered};
 ghost use Rattle.startd_core.specs.Sound.{IsSound};
-ghost use Rattle.startd_core.specs.Startds.{with_slot, after_mail, after_end, judges, is_due, is_early, is_start_seen, after_tick, after_reboot};
+ghost use Rattle.startd_core.specs.Startds.{with_slot, place_of, slot_of, after_mail, stranger_step, received_at, after_end, ended_at, put_at, judges, after_tick, after_reboot};
 
-use crate::answer::StartdStep;
-use crate::parts::Parts;
+use crate::answer::{StartdAnswer, StartdStep, kill_answer, nothing_done};
+use crate::conclude::{Conclusion, Made, has_entered, made_by};
+use crate::due::is_any_due;
+use crate::offers::Machine;
+use crate::ticks::{Ticks, boot_slots, tick_slots};
 use ad_eval::Judged;
 use ad_tree::Ad;
 use ad_value::{Memory, Text};
 use claim_id::SlotId;
 use pool_mail::{Ending, Mail, Settings};
-use startd_slot::Slot;
+use startd_slot::{Reaction, Slot, SlotState, claim_of, is_judged, react, react_to_end};
 use std::alloc::Global;
 use std::marker::Model;
 
 /// A machine's startd: its slots, in order, and what they keep. Contracts see it as a
 /// `StartdValue`, of which `IsSound` always holds.
 pub struct Startd {
-    parts: Parts,
+    machine: Machine,
+    settings: Settings,
+    // How many claims the machine has offered, over all its boots.
+    offers: u64,
+    slots: Vec<Slot>,
+    // The reading of the last tick of this boot.
+    ticked: Option<u64>,
+    // Whether a slot entered Owner, Retiring or Vacating in the last tick or after it.
+    restless: bool,
 }
 
 impl Drop for Startd {
     fn drop(self) {
-        let Startd { parts: _parts } = self;
+        let Startd {
+            machine: _,
+            settings: _,
+            offers: _,
+            slots: _slots,
+            ticked: _,
+            restless: _,
+        } = self;
     }
 }
 
@@ -30,18 +52,19 @@ impl Model for Startd {
     ghost use Rattle.pool_mail.specs.contracts.settings.Settings as of_settings;
     ghost use Rattle.startd_core.specs.contracts.offers.Machine as of_machine;
     ghost use Rattle.startd_slot.specs.contracts.slot.Slot as of_slot;
-    ghost use Rattle.startd_core.specs.Startds.{StartdValue};
+    ghost use Rattle.startd_core.specs.Startds.{StartdValue, startd_value};
+    ghost use Rattle.startd_core.specs.Sound.{IsSound};
 
     ghost Value = { StartdValue };
 
     ghost coded = { Prim.hlevel
         (codes, of_settings.the_row.coded, of_machine.the_row.coded, of_slot.the_row.coded) };
 
-    ghost use Rattle.startd_core.specs.Sound.{IsSound};
+    ghost view = { λ s. startd_value s.machine s.settings s.offers s.slots.items s.ticked
+        s.restless };
 
-    ghost view = { λ s. s.parts };
-
-    ghost invariant = { λ s. IsSound s.parts };
+    ghost invariant = { λ s. IsSound (startd_value s.machine s.settings s.offers s.slots.items
+        s.ticked s.restless) };
 }
 
 impl Startd {
@@ -63,7 +86,16 @@ impl Startd {
         } }
     {
         Startd {
-            parts: Parts::new(alloc, machine, boot, secret_key, settings),
+            machine: Machine {
+                number: machine,
+                boot,
+                secret_key,
+            },
+            settings,
+            offers: 0,
+            slots: Vec::new(alloc),
+            ticked: None,
+            restless: false,
         }
     }
 
@@ -73,7 +105,25 @@ impl Startd {
         ensures added { IfOk result (λ _. self.new ≡ with_slot name ad self.old) }
         ensures kept { OnErr result (self.new ≡ self.old) }
     {
-        self.parts.add_slot(name, ad)
+        let Ok(place) = u16::try_from(self.slots.len()) else {
+            return Err(Memory);
+        };
+        let Some(number) = place.checked_add(1) else {
+            return Err(Memory);
+        };
+        let id = SlotId {
+            machine: self.machine.number,
+            slot: number,
+        };
+        let state = SlotState::after_boot(0);
+        let slot = Slot {
+            id,
+            name,
+            ad,
+            state,
+        };
+        self.slots.push(slot)?;
+        Ok(())
     }
 
     /// What always holds of a startd: its slots have the numbers of their places, and each one's
@@ -81,14 +131,40 @@ impl Startd {
     pub fn soundness(&self)
         ensures { IsSound self.now }
     {
-        let _ = &self.parts;
+        let _ = &self.slots;
     }
 
-    /// The slots, in order. Computes in O(1).
+    /// The slots, in order. Computes in O(1), without memory.
     pub fn slots(&self) -> &[Slot]
         ensures { result.now ≡ self.now.slots }
     {
-        self.parts.slots()
+        self.slots.as_slice()
+    }
+
+    // The place of a slot of this machine.
+    fn place_of(&self, slot: SlotId) -> Option<usize>
+        ensures { result ≡ place_of self.now slot }
+    {
+        let count = self.slots.len();
+        if slot.machine == self.machine.number && 0 < slot.slot && usize::from(slot.slot) <= count {
+            Some(usize::from(slot.slot) - 1)
+        } else {
+            None
+        }
+    }
+
+    fn slot_of(&self, slot: SlotId) -> Option<&Slot>
+        ensures { option_copied result ≡ slot_of self.now slot }
+    {
+        let place = self.place_of(slot)?;
+        self.slots.get(place)
+    }
+
+    fn slot_at(&self, place: usize) -> Option<&Slot>
+        ensures value { option_copied result ≡ slice_get self.now.slots place }
+        ensures within { OnSome result (place < length self.now.slots) }
+    {
+        self.slots.get(place)
     }
 
     /// The slot with whose ad the mail is judged at a reading; none where it isn't judged. Computes
@@ -96,12 +172,14 @@ impl Startd {
     pub fn judges(&self, mail: &Mail, reading: u64) -> Option<SlotId>
         ensures { result ≡ judges self.now mail.now reading }
     {
-        self.parts.judges(mail, reading)
+        let slot = self.slot_of(claim_of(mail)?.slot)?;
+        is_judged(self.machine.boot, slot, mail, reading).then_some(slot.id)
     }
 
     /// A mail is received. `judged` is what `judge` gives of the mail's ad and the ad of the slot
     /// that `judges` names, at the reading. Memory too where a count of 64 bits is at its end.
-    /// After an error the startd is as it was. Computes in O(attributes of the mail's ad).
+    /// After an error the startd is as it was. Computes in O(attributes of the mail's ad), and an
+    /// evaluation of Rank for an Ask.
     pub fn receive(
         &mut self,
         alloc: Global,
@@ -115,7 +193,55 @@ impl Startd {
             ≡ (after_mail self.old mail.now judged reading).step) }
         ensures kept { OnErr result (self.new ≡ self.old) }
     {
-        self.parts.receive(alloc, mail, judged, reading)
+        let Some(claim) = claim_of(mail) else {
+            return Ok(nothing_done(alloc));
+        };
+        match self.place_of(claim.slot) {
+            Some(place) => self.receive_at(alloc, place, mail, judged, reading),
+            None => answer_stranger(alloc, self.machine, mail, reading),
+        }
+    }
+
+    fn receive_at(
+        &mut self,
+        alloc: Global,
+        place: usize,
+        mail: &Mail,
+        judged: Option<Judged>,
+        reading: u64,
+    ) -> Result<StartdStep, Memory>
+        ensures startd { IfOk result (λ _. self.new ≡ (received_at self.old place
+            (slice_get self.old.slots place) mail.now judged reading).startd) }
+        ensures step { IfOk result (λ step. step ≡ (received_at self.old place
+            (slice_get self.old.slots place) mail.now judged reading).step) }
+        ensures kept { OnErr result (self.new ≡ self.old) }
+    {
+        let Some(slot) = self.slot_at(place) else {
+            return Ok(nothing_done(alloc));
+        };
+        let reaction = react(alloc, self.machine.boot, slot, mail, judged, reading)?;
+        let made = made_by(alloc, self.machine, self.offers, slot, reaction, reading)?;
+        Ok(self.put_made(place, made))
+    }
+
+    // The slot of a place becomes what was made of it.
+    fn put_made(&mut self, place: usize, made: Made) -> StartdStep
+        requires within { place < length self.old.slots }
+        requires sound { IsSound (put_at self.old place made.conclusion) }
+        ensures startd { self.new ≡ put_at self.old place made.conclusion }
+        ensures step { result
+            ≡ record { mails = made.conclusion.mails; answer = made.answer } }
+    {
+        let Made { conclusion, answer } = made;
+        let Conclusion {
+            state,
+            offers,
+            mails,
+        } = conclusion;
+        let restless = put_state(&mut self.slots, place, state, self.restless);
+        self.offers = offers;
+        self.restless = restless;
+        StartdStep { mails, answer }
     }
 
     /// A run's program has ended. Memory too where a count of 64 bits is at its end. After an error
@@ -131,31 +257,85 @@ impl Startd {
         ensures step { IfOk result (λ step. step ≡ (after_end self.old ending.now reading).step) }
         ensures kept { OnErr result (self.new ≡ self.old) }
     {
-        self.parts.ended(alloc, ending, reading)
+        match self.place_of(ending.run.claim.slot) {
+            Some(place) => self.end_at(alloc, place, ending, reading),
+            None => Ok(nothing_done(alloc)),
+        }
+    }
+
+    fn end_at(
+        &mut self,
+        alloc: Global,
+        place: usize,
+        ending: &Ending,
+        reading: u64,
+    ) -> Result<StartdStep, Memory>
+        ensures startd { IfOk result (λ _. self.new ≡ (ended_at self.old place
+            (slice_get self.old.slots place) ending.now reading).startd) }
+        ensures step { IfOk result (λ step. step ≡ (ended_at self.old place
+            (slice_get self.old.slots place) ending.now reading).step) }
+        ensures kept { OnErr result (self.new ≡ self.old) }
+    {
+        let Some(slot) = self.slot_at(place) else {
+            return Ok(nothing_done(alloc));
+        };
+        if !slot.state.runs(ending.run) {
+            return Ok(nothing_done(alloc));
+        }
+        let reaction = react_to_end(alloc, &slot.state, ending, reading)?;
+        let made = made_by(alloc, self.machine, self.offers, slot, reaction, reading)?;
+        Ok(self.put_made(place, made))
     }
 
     /// Whether a tick is due at a reading: at the first turn after a boot; where a slot entered
-    /// Owner, Retiring or Vacating in the last tick or after it; and at a later reading where a
-    /// slot's state or an Update would come. True also where there is no memory to look at the
-    /// Start of a slot, and so only where there is a slot that nobody has claimed. Computes in
-    /// O(slots), with an evaluation of Start for each slot that nobody has claimed.
-    pub fn due(&self, alloc: Global, reading: u64) -> bool
-        ensures idle { result ≡ false → is_due self.now reading ≡ false }
-        ensures due { result ≡ true
-            → (is_due self.now reading ≡ true) ⊎ (is_start_seen self.now.slots ≡ true) }
-        ensures early { is_early self.now reading ≡ true → result ≡ false }
+    /// Owner, Retiring or Vacating in the last tick or after it; and at a reading later than the
+    /// last tick's, where the state of a slot or an Update would come. Memory only where that hangs
+    /// on the Start of a slot; a tick is then to be tried (`is_tick_tried`). Computes in O(slots),
+    /// with an evaluation of Start for each slot that nobody has claimed.
+    pub fn due(&self, alloc: Global, reading: u64) -> Result<bool, Memory>
+        ensures due { IfOk result (λ due. due ≡ is_due self.now reading) }
+        ensures refused { OnErr result (hangs_on_start self.now reading ≡ true) }
     {
-        self.parts.due(alloc, reading)
+        let Some(ticked) = self.ticked else {
+            return Ok(true);
+        };
+        if self.restless {
+            return Ok(true);
+        }
+        if reading <= ticked {
+            return Ok(false);
+        }
+        is_any_due(alloc, &self.slots, &self.settings, reading)
     }
 
     /// Time passes. Memory too where a count of 64 bits is at its end. After an error the startd is
-    /// as it was. Computes in O(slots).
+    /// as it was. Computes in O(slots), with an evaluation of Start for each slot that nobody has
+    /// claimed.
     pub fn tick(&mut self, alloc: Global, reading: u64) -> Result<StartdStep, Memory>
         ensures startd { IfOk result (λ _. self.new ≡ (after_tick self.old reading).startd) }
         ensures step { IfOk result (λ step. step ≡ (after_tick self.old reading).step) }
         ensures kept { OnErr result (self.new ≡ self.old) }
     {
-        self.parts.tick(alloc, reading)
+        let Ticks {
+            slots,
+            offers,
+            mails,
+            killed,
+            restless,
+        } = tick_slots(
+            alloc,
+            self.machine,
+            &self.settings,
+            &self.slots,
+            reading,
+            self.offers,
+        )?;
+        self.slots = slots.into_vec();
+        self.offers = offers;
+        self.restless = restless;
+        self.ticked = Some(reading);
+        let answer = kill_answer(killed);
+        Ok(StartdStep { mails, answer })
     }
 
     /// The machine boots anew: no slot has a claim. Memory too where the boot is the last number of
@@ -165,6 +345,56 @@ impl Startd {
         ensures step { IfOk result (λ step. step ≡ (after_reboot self.old reading).step) }
         ensures kept { OnErr result (self.new ≡ self.old) }
     {
-        self.parts.reboot(alloc, reading)
+        let Some(boot) = self.machine.boot.checked_add(1) else {
+            return Err(Memory);
+        };
+        let Ticks { slots, mails, .. } = boot_slots(alloc, &self.slots, reading, self.offers)?;
+        self.slots = slots.into_vec();
+        self.machine.boot = boot;
+        self.ticked = None;
+        self.restless = false;
+        Ok(StartdStep {
+            mails,
+            answer: StartdAnswer::Done,
+        })
     }
+}
+
+// The slot of a place stands so. Whether its startd, which is restless or isn't, is so then.
+fn put_state(slots: &mut Vec<Slot>, place: usize, state: SlotState, restless: bool) -> bool
+    requires { place < length slots.old.items }
+    ensures slots { (slot : Slot) → slice_get slots.old.items place ≡ Some slot
+        → slots.new.items ≡ slice_set slots.old.items place (record slot { state = state }) }
+    ensures restless { (slot : Slot) → slice_get slots.old.items place ≡ Some slot
+        → result ≡ (restless || has_entered slot.state state) }
+{
+    let slot = &mut slots[place];
+    let entered = has_entered(&slot.state, &state);
+    slot.state = state;
+    restless || entered
+}
+
+// A mail that speaks of a slot which the machine doesn't have.
+fn answer_stranger(
+    alloc: Global,
+    machine: Machine,
+    mail: &Mail,
+    reading: u64,
+) -> Result<StartdStep, Memory>
+    ensures { IfOk result (λ step. step ≡ stranger_step machine mail.now reading) }
+{
+    let nowhere = Slot {
+        id: SlotId {
+            machine: machine.number,
+            slot: 0,
+        },
+        name: Text::new(alloc),
+        ad: Ad::new(alloc),
+        state: SlotState::after_boot(reading),
+    };
+    let Reaction { mails, .. } = react(alloc, machine.boot, &nowhere, mail, None, reading)?;
+    Ok(StartdStep {
+        mails,
+        answer: StartdAnswer::Done,
+    })
 }

@@ -1,7 +1,7 @@
 // Slot after slot, as time passes and as the machine boots.
 
 ghost use Rattle.std.specs.Prelude.{◌≡◌, ◌++◌, IfOk};
-ghost use Rattle.startd_core.specs.Startds.{no_ticks, tells_at, after_slot, after_row, after_booted};
+ghost use Rattle.startd_core.specs.Startds.{no_ticks, tells_at, after_slot, after_slots, after_row, after_boots, after_booted};
 ghost use Rattle.startd_core.specs.TickTable.{killed_by};
 
 use crate::answer::RunList;
@@ -135,6 +135,41 @@ impl Ticks {
             restless,
         })
     }
+}
+
+/// Time passes for slots, one after the other.
+pub(crate) fn tick_slots(
+    alloc: Global,
+    machine: Machine,
+    settings: &Settings,
+    slots: &[Slot],
+    reading: u64,
+    offers: u64,
+) -> Result<Ticks, Memory>
+    ensures { IfOk result (λ t. t
+        ≡ after_slots machine settings.now slots.now reading (no_ticks offers)) }
+{
+    let mut ticks = Ticks::new(alloc, offers);
+    for slot in slots {
+        ticks = ticks.tick(alloc, machine, settings, slot, reading)?;
+    }
+    Ok(ticks)
+}
+
+/// The machine boots with slots, one after the other.
+pub(crate) fn boot_slots(
+    alloc: Global,
+    slots: &[Slot],
+    reading: u64,
+    offers: u64,
+) -> Result<Ticks, Memory>
+    ensures { IfOk result (λ t. t ≡ after_boots slots.now reading (no_ticks offers)) }
+{
+    let mut ticks = Ticks::new(alloc, offers);
+    for slot in slots {
+        ticks = ticks.boot(alloc, slot, reading)?;
+    }
+    Ok(ticks)
 }
 
 // Whether a slot tells how it stands.

@@ -1,7 +1,7 @@
 -- What comes of the slots that are left is what comes of all.
 use Rattle.std.proofs.Common.{◌≡◌, drop}
 use Rattle.startd_core.specs.Startds.{after_slots, no_ticks}
-use Rattle.startd_core.proofs.parts.tick_slots.Given as goal
+use Rattle.startd_core.proofs.ticks.tick_slots.Given as goal
 
 abbrev pub invariant-loop-slot : goal.invariant-loop-slot
 invariant-loop-slot l =

@@ -1,7 +1,7 @@
 -- A slot is due where one of those that are left is; and so is one seen whose Start is looked at.
 use Rattle.std.proofs.Common.{◌≡◌, true, drop}
-use Rattle.startd_core.specs.Startds.{is_any_due, is_start_seen}
-use Rattle.startd_core.proofs.parts.is_any_due.Given as goal
+use Rattle.startd_core.specs.DueTicks.{is_any_due, is_start_seen}
+use Rattle.startd_core.proofs.due.is_any_due.Given as goal
 
 abbrev pub invariant-loop-slot : goal.invariant-loop-slot
 invariant-loop-slot l = record {
