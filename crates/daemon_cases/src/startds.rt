@@ -12,7 +12,7 @@ use daemon_texts::{
     write_run, write_runs,
 };
 use pool_mail::{Ending, MAX_SECONDS, Mail, Settings};
-use startd_core::{Permit, Startd, StartdAnswer, StartdStep};
+use startd_core::{Permit, Startd, StartdAnswer, StartdStep, is_tick_tried};
 use std::alloc::{AllocError, Global};
 
 /// `new-startd MACHINE BOOT UPDATE_INTERVAL MATCH_TIMEOUT CLAIM_LEASE MAXJOBRETIREMENTTIME
@@ -117,7 +117,7 @@ pub(crate) fn answer_startd(
         }
         "tick" => {
             let reading = case.natural(case.one_field()?)?;
-            if !startd.due(alloc, reading) {
+            if !is_tick_tried(startd.due(alloc, reading)) {
                 out.push_str("NotDue")?;
                 return Ok(());
             }
