@@ -4,4 +4,5 @@ pub mod Alike
 mod LinkLemmas
 mod Reaches
 mod Named
+pub mod Found
 pub mod Agreeing

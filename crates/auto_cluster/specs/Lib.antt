@@ -1,4 +1,5 @@
 pub mod Significant
 pub mod Links
 pub mod Clustering
+pub mod Finding
 pub mod Laws

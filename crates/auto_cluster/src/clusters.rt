@@ -1,15 +1,18 @@
-ghost use Rattle.std.specs.Prelude.{◌≡◌, ◌++◌, [], length, slice_get, IfOk, OnOk, OnErr};
+ghost use Rattle.std.specs.Prelude.{◌≡◌, ◌≢◌, ◌++◌, ◌∷◌, [], Some, length, slice_get, MatchOption, IfOk, OnOk, OnErr};
+ghost use Rattle.std.specs.List.{All};
 ghost use Rattle.ad_tree.specs.Ad.{names};
 ghost use Rattle.auto_cluster.specs.Clustering.{IsNumbered, AreClusters};
 ghost use Rattle.auto_cluster.specs.Links.{name_of};
 ghost use Rattle.auto_cluster.specs.Significant.{Significant};
 
+use crate::finding::{Places, part_digest, place_among, places_under, put_under};
 use crate::links::Link;
-use crate::parts::{part_of, place_of};
+use crate::parts::part_of;
 use crate::references::links_of;
 use ad_tree::{Ad, AdList};
 use ad_value::{Memory, Seq, Text, TextList};
 use std::alloc::Global;
+use std::collections::HashMap;
 use std::marker::Model;
 
 /// The autoclusters of one submitter's jobs over a list of slots (HTCondor manual, autoclusters).
@@ -18,6 +21,7 @@ pub struct Clusters {
     slots: AdList,
     links: Vec<Link>,
     parts: Vec<Ad>,
+    places: Places,
 }
 
 impl Drop for Clusters {
@@ -26,12 +30,14 @@ impl Drop for Clusters {
             slots: _slots,
             links: _links,
             parts: _parts,
+            places: _places,
         } = self;
     }
 }
 
 impl Model for Clusters {
     ghost use Rattle.auto_cluster.specs.Clustering.{Clustering, AreClusters, AreLinksOf};
+    ghost use Rattle.auto_cluster.specs.Finding.{AreFoundBy};
     ghost use Rattle.std.specs.Coded.{codes};
     ghost use Rattle.ad_tree.specs.TreeCode.{attributes_code};
 
@@ -41,7 +47,9 @@ impl Model for Clusters {
 
     ghost view = { λ c. record { slots = c.slots; parts = c.parts.items } };
 
-    ghost invariant = { λ c. AreClusters c.parts.items × AreLinksOf c.slots c.links.items };
+    ghost invariant = { λ c. AreClusters c.parts.items
+        × AreLinksOf c.slots c.links.items
+        × AreFoundBy c.places c.parts.items };
 }
 
 impl Clusters {
@@ -55,6 +63,7 @@ impl Clusters {
             slots,
             links,
             parts: Vec::new(alloc),
+            places: HashMap::new(alloc),
         })
     }
 
@@ -70,25 +79,51 @@ impl Clusters {
         ensures { self.new ≡ record { slots = self.old.slots; parts = [] } }
     {
         self.parts.clear();
+        self.places.clear();
     }
 
     /// The number of a job's autocluster: jobs have one number exactly where their significant
     /// attributes are equal, names as they are spelled and expressions, in order. Numbers go from 0
-    /// in the order of the first calls. Computes in O(size of the job's expressions + links²), and
-    /// in O(autoclusters) comparisons. An error leaves all as it was.
+    /// in the order of the first calls. Computes in O(references of the job × links + links²), and
+    /// in O(size of the significant attributes) where no other autocluster's have the same digest;
+    /// else the same again for each that have. An error leaves all as it was.
     pub fn cluster_of(&mut self, alloc: Global, job: &Ad) -> Result<u32, Memory>
         ensures number { IfOk result (IsNumbered self.old self.new job.now) }
         ensures apart { AreClusters self.new.parts }
         ensures same { OnErr result (self.new ≡ self.old) }
     {
         let part = part_of(alloc, self.links.as_slice(), job)?;
-        let place = place_of(self.parts.as_slice(), &part);
+        let place = self.place_of(&part);
         if let Some(place) = place {
             return number_of(place);
         }
         let number = number_of(self.parts.len())?;
-        self.parts.push(part)?;
+        self.put(alloc, part)?;
         Ok(number)
+    }
+
+    // The number of the autocluster of those significant attributes.
+    fn place_of(&self, part: &Ad) -> Option<usize>
+        ensures { MatchOption result
+            (All (λ p. p ≢ part.now) self.now.parts)
+            (λ i. slice_get self.now.parts i ≡ Some part.now) }
+    {
+        let places = places_under(&self.places, part_digest(part));
+        place_among(&self.parts, places, part)
+    }
+
+    // The next autocluster has those significant attributes.
+    fn put(&mut self, alloc: Global, part: Ad) -> Result<(), Memory>
+        requires { All (λ p. p ≢ part) self.old.parts }
+        ensures put { OnOk result (self.new
+            ≡ record self.old { parts = self.old.parts ++ part ∷ [] }) }
+        ensures same { OnErr result (self.new ≡ self.old) }
+    {
+        let place = self.len();
+        self.parts.reserve(1)?;
+        put_under(alloc, &mut self.places, part_digest(&part), place)?;
+        self.parts.push(part).unwrap();
+        Ok(())
     }
 }
 

@@ -3,6 +3,7 @@
 #![tactic(auto)]
 
 mod clusters;
+mod finding;
 pub mod laws;
 mod links;
 mod parts;

@@ -1,7 +1,6 @@
 //! The significant attributes of a job.
 
-ghost use Rattle.std.specs.Prelude.{◌≡◌, ◌≢◌, ◌++◌, not, cond, List, Option, Some, None, filter, take, drop, slice_get, IfOk, MatchOption};
-ghost use Rattle.std.specs.List.{All};
+ghost use Rattle.std.specs.Prelude.{◌≡◌, List, filter, slice_get, IfOk};
 ghost use Rattle.ad_tree.specs.Ad.{Attributes};
 ghost use Rattle.auto_cluster.specs.Clustering.{AreLinksOf};
 ghost use Rattle.auto_cluster.specs.Links as links;
@@ -53,18 +52,4 @@ pub(crate) fn part_of(alloc: Global, slot_links: &[Link], job: &Ad) -> Result<Ad
     let names = reached_names(alloc, list)?;
     let part = attributes_named(alloc, names.as_slice(), job)?;
     Ok(part)
-}
-
-// The place of a part among others.
-pub(crate) fn place_of(parts: &[Ad], part: &Ad) -> Option<usize>
-    ensures { MatchOption result
-        (All (λ p. p ≢ part.now) parts.now)
-        (λ i. slice_get parts.now i ≡ Some part.now) }
-{
-    for (place, other) in parts.iter().enumerate() {
-        if other.same(part) {
-            return Some(place);
-        }
-    }
-    None
 }
