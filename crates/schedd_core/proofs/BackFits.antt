@@ -1,5 +1,5 @@
 -- A schedd that comes back after a crash fits its queue.
-use Rattle.std.proofs.Common.{◌≡◌, ◌≢◌, ◌⊎◌, inl, inr, ℕ, Bool, true, false, cond, List, [], ◌∷◌, ◌++◌, filter, Option, Some, None, is_some, IsSomeAnd, refl, ap, sym, ◌∙◌, subst}
+use Rattle.std.proofs.Common.{◌≡◌, ◌≢◌, ◌⊎◌, inl, inr, ℕ, Bool, true, false, List, [], ◌∷◌, ◌++◌, Option, Some, None, IsSomeAnd, refl, ap, sym, ◌∙◌, subst}
 use Rattle.std.specs.declared.cmp.Ordering.{Ordering}
 use Rattle.std.specs.declared.cmp.Ordering.TheVariants.{Less, Equal, Greater}
 use Rattle.std.specs.Ordering.{is_lt, is_eq}
@@ -12,22 +12,21 @@ use Rattle.claim_id.specs.declared.numbers.ClaimId.{ClaimId}
 use Rattle.claim_id.specs.declared.numbers.JobId.{JobId}
 use Rattle.claim_id.specs.Texts.{claim_text, IsClaim}
 use Rattle.pool_view.specs.AbstractPool.{IsIn}
-use Rattle.pool_view.proofs.Members.{in_filter, passes, passing_in}
+use Rattle.pool_view.proofs.Members.{passes, passing_in}
 use Rattle.queue_tx.specs.declared.key.Key.TheVariants.{Proc}
 use Rattle.queue_tx.specs.Keys.{key_cmp, key_cmp_total, same_key_laws}
 use Rattle.queue_tx.specs.Queues.{KeyedAds, ad_at}
-use Rattle.schedd_plan.specs.Reading.{run_number, lease_until}
+use Rattle.schedd_plan.specs.Reading.{run_number}
 use Rattle.schedd_table.specs.declared.claims.KeptClaim.{KeptClaim}
 use Rattle.schedd_table.specs.declared.runs.KeptRun.{KeptRun}
 use Rattle.schedd_table.specs.JobPlaces.{is_left}
 use Rattle.schedd_core.specs.JobStates.{NamesRun}
 use Rattle.schedd_core.specs.Logging.{reopened, IsReopened}
-use Rattle.schedd_core.specs.Reopening.{IsReader, claim_in_tree, claim_by, claim_in, run_named, run_found, run_by, found_run, one_run, found_behind, found_runs, one_claim, claims_behind, found_claims, is_under_kind, under_by, is_under_at, still_left}
+use Rattle.schedd_core.specs.Reopening.{IsReader, claim_by, claim_in, run_named, run_by, found_run, one_run, found_behind, found_runs, one_claim, claims_behind, found_claims, under_by, is_under_at, still_left}
 use Rattle.schedd_core.specs.ScheddParts.{IsUnderRun, AreOfDifferentJobs, FitsWith, Fits}
 use Rattle.schedd_core.specs.Schedds.{ScheddValue}
-use Rattle.schedd_core.specs.Searches.{is_later, AreUnder}
+use Rattle.schedd_core.specs.Searches.{AreUnder}
 use Rattle.schedd_core.proofs.OpenFits.{listed, of_list, job_under}
-use Rattle.schedd_core.proofs.PlanAds.{under_kind}
 use Rattle.schedd_core.proofs.PlanMay.{in_left, left_in}
 
 -- ---- lists

@@ -1,6 +1,6 @@
 -- A schedd fits its queue after each event.
-use Rattle.std.proofs.Common.{◌≡◌, ◌≢◌, ◌⊎◌, inl, inr, ℕ, ◌≤◌, ◌<◌, Bool, true, false, cond, not, ◌&&◌, List, [], ◌∷◌, ◌++◌, length, position, slice_get, Option, Some, None, is_some, is_none, IsSome, IsSomeAnd, refl, ap, sym, ◌∙◌, subst, arith}
-use Rattle.std.specs.Prelude.{Ok, MatchOption, nat_lt, slice_set, insert, remove}
+use Rattle.std.proofs.Common.{◌≡◌, ◌≢◌, ◌⊎◌, inl, inr, ℕ, Bool, true, false, cond, not, ◌&&◌, List, [], ◌∷◌, ◌++◌, length, slice_get, Option, Some, None, is_some, is_none, refl, ap, sym, ◌∙◌, subst, arith}
+use Rattle.std.specs.Prelude.{Ok, MatchOption, nat_lt, slice_set, remove}
 use Rattle.std.proofs.lemmas.Bool.{ltb-false}
 use Rattle.std.proofs.lemmas.Option.{slice_get_within}
 use Rattle.ad_names.specs.declared.job.TheConstants.{PERIODIC_HOLD, PERIODIC_REMOVE, PERIODIC_RELEASE}
@@ -28,41 +28,37 @@ use Rattle.schedd_plan.specs.declared.reason.Reason.{Reason}
 use Rattle.schedd_plan.specs.declared.reason.Reason.TheVariants.{ByCommand, ByPolicy}
 use Rattle.schedd_plan.specs.declared.status.JobStatus.{JobStatus}
 use Rattle.schedd_plan.specs.declared.status.JobStatus.TheVariants as status
-use Rattle.schedd_plan.specs.Plans.{job_of, plan_ops}
+use Rattle.schedd_plan.specs.Plans.{plan_ops}
 use Rattle.schedd_plan.specs.Reading.{lease_until, status_of}
 use Rattle.schedd_table.specs.declared.claims.KeptClaim.{KeptClaim}
 use Rattle.schedd_table.specs.declared.claims.Stage.{Stage}
 use Rattle.schedd_table.specs.declared.claims.Stage.TheVariants as stage
 use Rattle.schedd_table.specs.declared.mail.Fate.{Fate}
 use Rattle.schedd_table.specs.declared.mail.Fate.TheVariants as fate
-use Rattle.schedd_table.specs.declared.mail.MailRow.{MailRow}
 use Rattle.schedd_table.specs.declared.mail.MailRow.TheVariants as row
-use Rattle.schedd_table.specs.declared.places.JobPlace.{JobPlace}
-use Rattle.schedd_table.specs.declared.places.JobPlace.TheVariants as place
 use Rattle.schedd_table.specs.declared.runs.KeptRun.{KeptRun}
-use Rattle.schedd_table.specs.declared.tick.RunLine.TheVariants as of_run
 use Rattle.schedd_table.specs.declared.tick.TickLine.{TickLine}
 use Rattle.schedd_table.specs.declared.tick.TickLine.TheVariants as line
 use Rattle.schedd_table.specs.EndTable.{ended_ad_plan, is_asked_by}
 use Rattle.schedd_table.specs.JobPlaces.{is_left, kind_place, place_by, job_place, let_go}
 use Rattle.schedd_table.specs.KeptClaims.{place_of_claim, engages, staged, with_stage, named, with_job, claims_without}
 use Rattle.schedd_table.specs.KeptRuns.{place_of_run, place_for, with_run, runs_without, enlivened, with_alive}
-use Rattle.schedd_table.specs.MailTable.{is_idle_place, granted_at, granted_row, is_spent_why, denied_claim, denied_run, denied_row, order_row, fate_of_gone, is_leaving_in, fate_at, fate_in, after_fate}
+use Rattle.schedd_table.specs.MailTable.{is_idle_place, granted_at, granted_row, is_spent_why, denied_claim, denied_row, order_row, fate_of_gone, is_leaving_in, fate_in, after_fate}
 use Rattle.schedd_table.specs.OrderTable.{remove_plan, hold_plan, resume_plan, resume_marked, can_be_held, is_waiting}
 use Rattle.schedd_table.specs.TickTable.{lease_end}
 use Rattle.schedd_core.specs.declared.answer.ScheddStep.{ScheddStep}
 use Rattle.schedd_core.specs.Checks.{policy_plan, after_check_by, after_check, with_look}
 use Rattle.schedd_core.specs.Logging.{after_plan}
 use Rattle.schedd_core.specs.Reopening.{is_under_kind, under_by, is_under_at}
-use Rattle.schedd_core.specs.Rows.{stage_known, run_known, run_at, known_job, seen_at, seen_row, gone_at, gone_row, ended_at, ended_with, ended_row, mail_row, noted_in, noted, asked_in, after_row, after_mail}
-use Rattle.schedd_core.specs.ScheddParts.{IsUnderRun, AreOfDifferentJobs, FitsWith, Fits, IsThere, IsFitting, FitsOn, IsOfClaim}
+use Rattle.schedd_core.specs.Rows.{stage_known, run_at, known_job, seen_at, gone_at, gone_row, ended_at, ended_with, ended_row, mail_row, noted_in, noted, asked_in, after_row, after_mail}
+use Rattle.schedd_core.specs.ScheddParts.{IsUnderRun, FitsWith, Fits, IsThere, IsFitting, FitsOn, IsOfClaim}
 use Rattle.schedd_core.specs.Schedds.{ScheddValue, After, waits_for}
-use Rattle.schedd_core.specs.Ticks.{tick_line, IsSought, left_at, left_claims, after_past, later, lengthened_by, after_lengthen, run_granted, granted_by, after_grant, after_give_up, after_seek, after_line, IsTicked}
-use Rattle.schedd_core.proofs.FitsAfter.{Frees, Keeps, SameRun, freed_job, fits_logged, fits_freed, fits_kept, fits_granted, run_is_under, run_not_left, under_apart, ad_by}
+use Rattle.schedd_core.specs.Ticks.{tick_line, IsSought, left_at, left_claims, after_past, later, lengthened_by, after_lengthen, run_granted, granted_by, after_grant, after_give_up, after_line, IsTicked}
+use Rattle.schedd_core.proofs.FitsAfter.{Frees, Keeps, SameRun, fits_logged, fits_freed, fits_kept, fits_granted, run_is_under, run_not_left, under_apart}
 use Rattle.schedd_core.proofs.Freed.{let_go_frees, let_go_fits, end_frees, freed_fits}
-use Rattle.schedd_core.proofs.Lines.{RunAt, LineTold, line_told, IdleAd, idle_at, sought_idle}
+use Rattle.schedd_core.proofs.Lines.{LineTold, line_told, IdleAd, idle_at, sought_idle}
 use Rattle.schedd_core.proofs.Places.{in_at, in_removed, removed_is_other, different_removed, stays_after_removal, in_inserted, inserted_is_in, stays_after_insertion, different_inserted, in_changed, different_changed, stays_after_change, in_appended}
-use Rattle.schedd_core.proofs.PlanJobs.{left_after, is_there, there_under, under_ad, under_is}
+use Rattle.schedd_core.proofs.PlanJobs.{left_after, is_there, there_under}
 use Rattle.schedd_core.proofs.PlanMay.{in_left, left_in}
 
 -- ---- claims go on to be claims

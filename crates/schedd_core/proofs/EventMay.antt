@@ -1,6 +1,5 @@
 -- The moves that an event of the schedd is may be made.
-use Rattle.std.proofs.Common.{◌≡◌, ◌⊎◌, inl, inr, ℕ, ◌≤◌, max, Bool, true, false, cond, not, ◌&&◌, List, [], ◌∷◌, position, slice_get, Option, Some, None, is_some, is_none, IsSome, IsSomeAnd, refl, ap, sym, ◌∙◌, subst, arith}
-use Rattle.std.specs.Prelude.{nat_le}
+use Rattle.std.proofs.Common.{◌≡◌, ◌⊎◌, inl, inr, ℕ, ◌≤◌, Bool, true, false, cond, not, ◌&&◌, slice_get, Option, Some, None, is_some, is_none, IsSome, IsSomeAnd, refl, ap, sym, ◌∙◌, subst, arith}
 use Rattle.std.proofs.lemmas.Bool.{leb-true}
 use Rattle.ad_names.specs.declared.job.TheConstants.{PERIODIC_HOLD, PERIODIC_REMOVE, PERIODIC_RELEASE}
 use Rattle.ad_tree.specs.Ad.{Attributes}
@@ -15,7 +14,6 @@ use Rattle.pool_protocol.specs.Protocol.{Protocol}
 use Rattle.pool_protocol.specs.ProtocolMove.{TakeOrder, MayLetGo, MayPend, MayAll, protocol_after}
 use Rattle.pool_view.specs.AbstractPool.{IsIn}
 use Rattle.pool_view.specs.AbstractStep.{IsWaiting}
-use Rattle.pool_view.specs.declared.job.Entry.{Entry}
 use Rattle.pool_view.specs.declared.job.State.{State}
 use Rattle.pool_view.specs.declared.job.State.TheVariants as state
 use Rattle.queue_tx.specs.declared.key.Key.{Key}
@@ -30,7 +28,6 @@ use Rattle.schedd_plan.specs.declared.reason.Reason.{Reason}
 use Rattle.schedd_plan.specs.declared.reason.Reason.TheVariants.{ByPolicy}
 use Rattle.schedd_plan.specs.declared.status.JobStatus.{JobStatus}
 use Rattle.schedd_plan.specs.declared.status.JobStatus.TheVariants as status
-use Rattle.schedd_plan.specs.Plans.{job_of}
 use Rattle.schedd_plan.specs.Reading.{lease_until, status_of}
 use Rattle.schedd_table.specs.declared.claims.KeptClaim.{KeptClaim}
 use Rattle.schedd_table.specs.declared.claims.Stage.{Stage}
@@ -47,24 +44,23 @@ use Rattle.schedd_table.specs.EndTable.{ended_ad_plan, is_asked_by}
 use Rattle.schedd_table.specs.JobPlaces.{is_left, kind_place, place_by, job_place, let_go}
 use Rattle.schedd_table.specs.KeptClaims.{place_of_claim, engages}
 use Rattle.schedd_table.specs.KeptRuns.{run_of, is_run, place_of_run}
-use Rattle.schedd_table.specs.MailTable.{matched_row, is_idle_place, granted_at, granted_row, is_spent_why, denied_claim, denied_run, denied_row, order_row, fate_of_gone}
-use Rattle.schedd_table.specs.OrderTable.{remove_plan, hold_plan, hold_left, hold_under, resume_plan, resume_marked, can_be_held, is_waiting}
+use Rattle.schedd_table.specs.MailTable.{is_idle_place, granted_at, granted_row, is_spent_why, denied_claim, denied_row, order_row}
+use Rattle.schedd_table.specs.OrderTable.{remove_plan, hold_plan, resume_plan, resume_marked, can_be_held, is_waiting}
 use Rattle.schedd_table.specs.TickTable.{is_past, lease_end}
 use Rattle.schedd_core.specs.Checks.{policy_plan, after_check_by, after_check, with_look}
 use Rattle.schedd_core.specs.declared.answer.ScheddStep.{ScheddStep}
 use Rattle.schedd_core.specs.JobStates.{ShowsState}
-use Rattle.schedd_core.specs.PlanChanges.{change_at, change_by, change_of, pends, order_moves, moves_of_order, moves_of_mail}
-use Rattle.schedd_core.specs.Reopening.{is_under_at}
-use Rattle.schedd_core.specs.Rows.{stage_known, known_at, known_stage, run_known, run_at, known_job, seen_at, seen_row, gone_at, gone_row, ended_at, ended_with, ended_row, mail_row, asked_in, after_row, after_mail}
+use Rattle.schedd_core.specs.PlanChanges.{change_at, change_by, pends, order_moves, moves_of_order, moves_of_mail}
+use Rattle.schedd_core.specs.Rows.{stage_known, run_at, known_job, seen_at, seen_row, gone_at, gone_row, ended_at, ended_with, ended_row, mail_row, asked_in, after_row}
 use Rattle.schedd_core.specs.ScheddParts.{IsPart, Fits, IsHeard}
 use Rattle.schedd_core.specs.Schedds.{ScheddValue, waits_for}
-use Rattle.schedd_core.specs.Ticks.{tick_line, IsSought, later, lengthened_by, after_lengthen, granted_by, after_grant, after_past, after_give_up, after_seek, after_line, IsTicked}
+use Rattle.schedd_core.specs.Ticks.{tick_line, IsSought, later, lengthened_by, after_lengthen, granted_by, after_grant, after_past, after_give_up, after_line, IsTicked}
 use Rattle.schedd_core.proofs.FitsAfter.{Frees, freed_job}
 use Rattle.schedd_core.proofs.Freed.{let_go_frees, end_frees}
 use Rattle.schedd_core.proofs.PlanAds.{run_kind}
 use Rattle.schedd_core.proofs.Lines.{RunAt, LineTold, line_told, IdleAd, idle_at, sought_idle, past_lease}
 use Rattle.schedd_core.proofs.Places.{in_at, passes_at}
-use Rattle.schedd_core.proofs.PlanJobs.{Shown, shown_at, UnderAd, under_ad, kind_there}
+use Rattle.schedd_core.proofs.PlanJobs.{Shown, shown_at, under_ad}
 use Rattle.schedd_core.proofs.PlanMay.{UnderRun, under_run, stands_as, shown_is, is_run-true, in_left, may_let_go, may_free, may_end, pend_may}
 
 -- ---- the plan of a row

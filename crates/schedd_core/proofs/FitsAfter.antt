@@ -1,5 +1,5 @@
 -- A schedd goes on to fit its queue once what it planned is logged.
-use Rattle.std.proofs.Common.{◌≡◌, ◌≢◌, ◌⊎◌, inl, inr, ℕ, Bool, true, false, cond, not, ◌||◌, List, [], ◌∷◌, filter, Option, Some, None, is_some, IsSome, IsSomeAnd, refl, ap, sym, ◌∙◌, subst}
+use Rattle.std.proofs.Common.{◌≡◌, ◌⊎◌, inl, inr, ℕ, Bool, true, false, not, List, Option, Some, None, is_some, IsSome, IsSomeAnd, refl, ap, sym, ◌∙◌, subst}
 use Rattle.std.specs.Prelude.{Ok}
 use Rattle.ad_tree.specs.Ad.{Attributes}
 use Rattle.claim_id.specs.declared.numbers.ClaimId.{ClaimId}
@@ -7,7 +7,7 @@ use Rattle.claim_id.specs.declared.numbers.JobId.{JobId}
 use Rattle.claim_id.specs.Texts.{IsClaim}
 use Rattle.pool_view.specs.AbstractPool.{IsIn}
 use Rattle.pool_view.specs.Numbers.{same_job}
-use Rattle.pool_view.proofs.Sameness.{same_job-true, same_job-same, other_job}
+use Rattle.pool_view.proofs.Sameness.{same_job-true}
 use Rattle.pool_view.proofs.Members.{in_filter, passes}
 use Rattle.queue_tx.specs.declared.key.Key.TheVariants.{Proc}
 use Rattle.queue_tx.specs.declared.kind.JobKind.{JobKind}
@@ -23,10 +23,10 @@ use Rattle.schedd_table.specs.JobPlaces.{is_left}
 use Rattle.schedd_core.specs.JobStates.{NamesRun}
 use Rattle.schedd_core.specs.Logging.{taken_off, after_plan}
 use Rattle.schedd_core.specs.Reopening.{is_under_kind, under_by, is_under_at}
-use Rattle.schedd_core.specs.ScheddParts.{IsUnderRun, AreOfDifferentJobs, IsOrdered, FitsWith, Fits, IsThere, IsFitting}
+use Rattle.schedd_core.specs.ScheddParts.{IsUnderRun, AreOfDifferentJobs, FitsWith, Fits, IsThere, IsFitting}
 use Rattle.schedd_core.specs.Schedds.{ScheddValue}
-use Rattle.schedd_core.proofs.PlanAds.{with_status, marked_held, runless, lengthened, granted, has_claim, under_kind, run_kind, idle_kind, held_kind, run_status, run_marked, run_lengthened, run_granted, claim_status, claim_marked, claim_lengthened}
-use Rattle.schedd_core.proofs.PlanJobs.{plan_ad, ad_of_plan, ad_elsewhere, left_after, left_apart, UnderAd, under_ad, kind_there, is_there}
+use Rattle.schedd_core.proofs.PlanAds.{with_status, marked_held, lengthened, granted, has_claim, under_kind, run_kind, idle_kind, held_kind, run_status, run_marked, run_lengthened, run_granted, claim_status, claim_marked, claim_lengthened}
+use Rattle.schedd_core.proofs.PlanJobs.{plan_ad, ad_of_plan, ad_elsewhere, left_after, left_apart, UnderAd, under_ad}
 use Rattle.schedd_core.proofs.QueueChanges.{ordered_after}
 
 -- a plan that takes a job from its run, or out of the queue

@@ -1,11 +1,10 @@
 -- A schedd that comes back with its plan logged, and one that comes back with nothing unfinished.
-use Rattle.std.proofs.Common.{◌≡◌, ◌⊎◌, inl, inr, ℕ, ◌+◌, Bool, true, false, cond, not, List, [], ◌∷◌, filter, Option, Some, None, is_some, refl, ap, sym, ◌∙◌, subst}
+use Rattle.std.proofs.Common.{◌≡◌, ℕ, ◌+◌, Bool, true, false, cond, not, List, [], ◌∷◌, Option, Some, None, is_some, refl, ap, sym, ◌∙◌, subst}
 use Rattle.std.specs.Prelude.{Ok}
 use Rattle.ad_tree.specs.Ad.{Attributes}
 use Rattle.claim_id.specs.declared.numbers.ClaimId.{ClaimId}
 use Rattle.claim_id.specs.declared.numbers.JobId.{JobId}
 use Rattle.pool_protocol.specs.Protocol.{Protocol}
-use Rattle.pool_view.specs.AbstractPool.{IsIn}
 use Rattle.pool_view.specs.Numbers.{same_job}
 use Rattle.pool_view.specs.declared.job.Entry.{Entry}
 use Rattle.pool_view.specs.declared.job.State.{State}
@@ -13,17 +12,16 @@ use Rattle.pool_view.specs.declared.job.State.TheVariants as state
 use Rattle.pool_view.proofs.Members.{in_filter, passing_in}
 use Rattle.pool_view.proofs.Sameness.{same_job-true}
 use Rattle.queue_tx.specs.declared.key.Key.TheVariants.{Proc}
-use Rattle.queue_tx.specs.declared.kind.JobKind.TheVariants as kind
 use Rattle.queue_tx.specs.Kinds.{kind_of}
 use Rattle.queue_tx.specs.Queues.{KeyedAds, ad_at, queue_after}
 use Rattle.schedd_plan.specs.declared.plan.JobPlan.{JobPlan}
 use Rattle.schedd_plan.specs.declared.plan.JobPlan.TheVariants as plan
 use Rattle.schedd_plan.specs.Plans.{job_of, plan_ops}
 use Rattle.schedd_table.specs.JobPlaces.{is_left}
-use Rattle.schedd_core.specs.JobStates.{ShowsState, ShowsEntry, ShowsJob, ShowsJobs}
+use Rattle.schedd_core.specs.JobStates.{ShowsState, ShowsJob, ShowsJobs}
 use Rattle.schedd_core.specs.Logging.{taken_off, after_plan, reopened, IsReopened}
 use Rattle.schedd_core.specs.Reopening.{IsReader, next_after, is_under_kind, under_by, is_under_at, still_left, found_runs, found_claims}
-use Rattle.schedd_core.specs.ScheddParts.{IsPart, IsOrdered, IsThere, IsFitting}
+use Rattle.schedd_core.specs.ScheddParts.{IsPart, IsOrdered, IsFitting}
 use Rattle.schedd_core.specs.Schedds.{ScheddValue}
 use Rattle.schedd_core.proofs.FitsAfter.{Frees, freed_kind, ad_by}
 use Rattle.schedd_core.proofs.PlanAds.{run_kind, run_granted, granted}

@@ -1,5 +1,5 @@
 -- A lease in the queue never ends sooner than it did.
-use Rattle.std.proofs.Common.{◌≡◌, ℕ, ◌≤◌, max, Bool, true, false, cond, not, ◌&&◌, List, [], ◌∷◌, slice_get, position, Option, Some, None, is_some, is_none, IfSome, IsSomeAnd, refl, ap, sym, ◌∙◌, subst, arith}
+use Rattle.std.proofs.Common.{◌≡◌, ℕ, ◌≤◌, Bool, true, false, cond, not, ◌&&◌, slice_get, Option, Some, None, is_some, is_none, IfSome, IsSomeAnd, refl, ap, sym, ◌∙◌, subst, arith}
 use Rattle.std.specs.Prelude.{Ok}
 use Rattle.ad_names.specs.declared.job.TheConstants.{PERIODIC_HOLD, PERIODIC_REMOVE, PERIODIC_RELEASE}
 use Rattle.ad_tree.specs.Ad.{Attributes}
@@ -9,7 +9,6 @@ use Rattle.claim_id.specs.declared.numbers.RunNo.{RunNo}
 use Rattle.pool_mail.specs.declared.end.How.{How}
 use Rattle.pool_mail.specs.declared.mail.Mail.{Mail}
 use Rattle.pool_mail.specs.declared.mail.Mail.TheVariants as mail
-use Rattle.pool_view.specs.AbstractPool.{IsIn}
 use Rattle.pool_view.specs.Numbers.{same_job}
 use Rattle.pool_view.proofs.Sameness.{same_job-true}
 use Rattle.queue_tx.specs.declared.key.Key.{Key}
@@ -52,8 +51,7 @@ use Rattle.schedd_core.specs.Ticks.{tick_line, IsSought, later, after_past, leng
 use Rattle.schedd_core.proofs.EventMay.{plan_of_row, row_plans, granted_quiet, denied_quiet, matched_quiet, seen_quiet}
 use Rattle.schedd_core.proofs.FitsAfter.{Frees}
 use Rattle.schedd_core.proofs.Freed.{let_go_frees, end_frees}
-use Rattle.schedd_core.proofs.Lines.{RunAt, LineTold, line_told, IdleAd, idle_at, sought_idle}
-use Rattle.schedd_core.proofs.Places.{in_at}
+use Rattle.schedd_core.proofs.Lines.{LineTold, line_told, IdleAd, idle_at, sought_idle}
 use Rattle.schedd_core.proofs.PlanAds.{with_status, marked_held, runless, lengthened, idle_kind, held_kind, run_kind, run_status, run_marked, lease_lengthened}
 use Rattle.schedd_core.proofs.PlanJobs.{plan_ad, ad_of_plan, ad_elsewhere}
 use Rattle.schedd_core.proofs.PlanMay.{one_run}

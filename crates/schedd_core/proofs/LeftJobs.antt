@@ -16,7 +16,7 @@ use Rattle.schedd_core.specs.ScheddParts.{Fits}
 use Rattle.schedd_core.specs.Schedds.{ScheddValue}
 use Rattle.schedd_core.proofs.BackFits.{in_both, reopened_fits}
 use Rattle.schedd_core.proofs.FitsAfter.{run_not_left}
-use Rattle.schedd_core.proofs.LoggedMails.{RunOf, run_found}
+use Rattle.schedd_core.proofs.LoggedMails.{run_found}
 use Rattle.schedd_core.proofs.PlanMay.{in_left}
 
 pub left_has_no_run : (q : KeyedAds) (v : ScheddValue) (job : JobId) → Fits q v → IsIn job v.left → run_of_job v.runs job ≡ None

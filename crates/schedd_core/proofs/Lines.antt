@@ -1,30 +1,25 @@
 -- What the rows of mails and the lines of a tick tell.
-use Rattle.std.proofs.Common.{◌≡◌, ◌⊎◌, inl, inr, ℕ, ◌≤◌, Bool, true, false, cond, not, ◌&&◌, List, [], ◌∷◌, length, position, slice_get, Option, Some, None, is_some, is_none, IsSome, IsSomeAnd, refl, ap, sym, ◌∙◌, subst}
-use Rattle.std.specs.declared.ops.Bound.TheVariants.{Unbounded}
+use Rattle.std.proofs.Common.{◌≡◌, ℕ, Bool, true, false, cond, slice_get, Option, Some, None, refl, ap, sym, ◌∙◌}
 use Rattle.ad_tree.specs.Ad.{Attributes}
 use Rattle.claim_id.specs.declared.numbers.JobId.{JobId}
 use Rattle.pool_mail.specs.declared.settings.Settings.{Settings}
-use Rattle.queue_tx.specs.declared.key.Key.{Key}
-use Rattle.queue_tx.specs.declared.key.Key.TheVariants.{Header, Proc}
+use Rattle.queue_tx.specs.declared.key.Key.TheVariants.{Proc}
 use Rattle.queue_tx.specs.declared.kind.JobKind.{JobKind}
 use Rattle.queue_tx.specs.declared.kind.JobKind.TheVariants as kind
-use Rattle.queue_tx.specs.Jobs.{FirstKey, IsJobOf, kind_under}
+use Rattle.queue_tx.specs.Jobs.{IsJobOf, kind_under}
 use Rattle.queue_tx.specs.Kinds.{kind_of}
 use Rattle.queue_tx.specs.Queues.{KeyedAds, ad_at}
 use Rattle.schedd_table.specs.declared.claims.KeptClaim.{KeptClaim}
 use Rattle.schedd_table.specs.declared.claims.Stage.{Stage}
 use Rattle.schedd_table.specs.declared.claims.Stage.TheVariants as stage
 use Rattle.schedd_table.specs.declared.runs.KeptRun.{KeptRun}
-use Rattle.schedd_table.specs.declared.tick.ClaimLine.{ClaimLine}
-use Rattle.schedd_table.specs.declared.tick.ClaimLine.TheVariants as of_claim
 use Rattle.schedd_table.specs.declared.tick.RunLine.{RunLine}
 use Rattle.schedd_table.specs.declared.tick.RunLine.TheVariants as of_run
 use Rattle.schedd_table.specs.declared.tick.TickLine.{TickLine}
 use Rattle.schedd_table.specs.declared.tick.TickLine.TheVariants as line
 use Rattle.schedd_table.specs.JobPlaces.{is_idle, is_idle_by, is_idle_at}
-use Rattle.schedd_table.specs.KeptRuns.{has_job_under, is_before}
+use Rattle.schedd_table.specs.KeptRuns.{has_job_under}
 use Rattle.schedd_table.specs.TickTable.{is_past, is_quiet, line_of_run, run_line_by, run_line, due_run, asked_line, ready_line, leaving_line, staged_line, claim_line, due_claim, line_at_run, line_at_claim, is_after}
-use Rattle.schedd_core.specs.Searches.{IsFree}
 use Rattle.schedd_core.specs.Schedds.{ScheddValue}
 use Rattle.schedd_core.specs.Ticks.{line_of_known, line_of_place, line_in_claim, line_of_claim, line_of_due_claim, line_of_claims, comes_first, line_of_jobs, tick_line, IsSought, IsSoughtBy}
 use Rattle.pool_view.specs.AbstractPool.{IsIn}

@@ -1,5 +1,5 @@
 -- What is sent once a plan is logged.
-use Rattle.std.proofs.Common.{◌≡◌, ◌⊎◌, inl, inr, ℕ, ◌≤◌, Bool, true, false, List, [], ◌∷◌, position, slice_get, Option, Some, None, IsSome, IsSomeAnd, refl, ap, sym, ◌∙◌, subst, arith}
+use Rattle.std.proofs.Common.{◌≡◌, inl, inr, ℕ, ◌≤◌, Bool, true, false, List, [], ◌∷◌, slice_get, Option, Some, None, IsSome, IsSomeAnd, refl, ap, sym, ◌∙◌, subst, arith}
 use Rattle.std.specs.Prelude.{Ok}
 use Rattle.ad_tree.specs.Ad.{Attributes}
 use Rattle.claim_id.specs.declared.numbers.ClaimId.{ClaimId}
@@ -7,7 +7,6 @@ use Rattle.claim_id.specs.declared.numbers.JobId.{JobId}
 use Rattle.claim_id.specs.declared.numbers.RunNo.{RunNo}
 use Rattle.pool_mail.specs.Ads.{request_ad}
 use Rattle.pool_mail.specs.declared.mail.Mail.{Mail}
-use Rattle.pool_mail.specs.declared.mail.Mail.TheVariants as mail
 use Rattle.pool_protocol.specs.Facts.{Facts}
 use Rattle.pool_protocol.specs.Protocol.{Lease, Protocol}
 use Rattle.pool_protocol.specs.ProtocolMove.{Commit, MayAll, protocol_after, protocol_after_all}
@@ -19,15 +18,13 @@ use Rattle.queue_tx.specs.declared.key.Key.TheVariants.{Proc}
 use Rattle.queue_tx.specs.Queues.{KeyedAds, ad_at, queue_after}
 use Rattle.schedd_plan.specs.declared.plan.JobPlan.{JobPlan}
 use Rattle.schedd_plan.specs.declared.plan.JobPlan.TheVariants as plan
-use Rattle.schedd_plan.specs.declared.reason.Reason.{Reason}
-use Rattle.schedd_plan.specs.declared.status.JobStatus.TheVariants as status
 use Rattle.schedd_plan.specs.Plans.{job_of, plan_ops}
 use Rattle.schedd_plan.specs.Reading.{lease_until, status_by, status_of}
 use Rattle.schedd_table.specs.declared.runs.KeptRun.{KeptRun}
 use Rattle.schedd_table.specs.JobPlaces.{is_left}
 use Rattle.schedd_table.specs.KeptRuns.{run_of, is_of_job, place_of_job}
 use Rattle.schedd_core.specs.JobStates.{NamesRun}
-use Rattle.schedd_core.specs.Logging.{run_in, run_at_place, run_of_job, stops, is_marked, is_stopped_by, is_stopped, stop_where, alives, activates, numbered, mails_of_plan, after_plan}
+use Rattle.schedd_core.specs.Logging.{run_in, run_at_place, run_of_job, stops, is_marked, is_stopped_by, is_stopped, alives, activates, numbered, mails_of_plan, after_plan}
 use Rattle.schedd_core.specs.PlanChanges.{change_of, lease_moves, told_leases, moves_of_logged}
 use Rattle.schedd_core.specs.ScheddParts.{IsPart, IsOrdered, Fits, IsUnderRun, IsFitting, IsRunIn, IsGrantOf, IsAllowed, IsLeased}
 use Rattle.schedd_core.specs.Schedds.{ScheddValue}
@@ -36,7 +33,7 @@ use Rattle.schedd_core.proofs.LoggedMay.{left_is, runs_are, part_committed}
 use Rattle.schedd_core.proofs.Places.{in_at, passes_at}
 use Rattle.schedd_core.proofs.PlanAds.{with_status, marked_held, lengthened, granted, status_set, status_marked, run_granted, lease_lengthened}
 use Rattle.schedd_core.proofs.PlanJobs.{plan_ad, ad_of_plan, plan_there, left_after}
-use Rattle.schedd_core.proofs.PlanMay.{UnderRun, under_run, stands_as, shown_is, one_run}
+use Rattle.schedd_core.proofs.PlanMay.{UnderRun, under_run, stands_as}
 
 -- ---- the run of a job, in the list of runs
 pub record RunOf (runs : List KeptRun) (job : JobId) (run : RunNo) : Type 0 where

@@ -1,24 +1,16 @@
 -- What a logged plan makes of the schedd's part of the protocol, and what is sent for it.
-use Rattle.std.proofs.Common.{◌≡◌, ◌⊎◌, inl, inr, ℕ, ◌+◌, ◌≤◌, Bool, true, false, cond, List, [], ◌∷◌, position, slice_get, Option, Some, None, is_some, IsSome, IsSomeAnd, IfSome, refl, ap, sym, ◌∙◌, subst, arith}
+use Rattle.std.proofs.Common.{◌≡◌, inl, inr, ℕ, ◌+◌, Bool, true, false, List, Option, Some, is_some, IsSomeAnd, IfSome, refl, ap, sym, ◌∙◌, subst}
 use Rattle.std.specs.Prelude.{Ok}
 use Rattle.ad_rows.specs.Rows.{integer_literal}
 use Rattle.ad_tree.specs.Ad.{Attributes}
-use Rattle.claim_id.specs.declared.numbers.ClaimId.{ClaimId}
 use Rattle.claim_id.specs.declared.numbers.JobId.{JobId}
-use Rattle.claim_id.specs.declared.numbers.RunNo.{RunNo}
-use Rattle.pool_mail.specs.Ads.{request_ad}
-use Rattle.pool_mail.specs.declared.mail.Mail.{Mail}
-use Rattle.pool_mail.specs.declared.mail.Mail.TheVariants as mail
 use Rattle.pool_protocol.specs.Facts.{Facts, CanBeMade}
-use Rattle.pool_protocol.specs.Protocol.{Lease, Change, Hidden, Submission, OfJob, Removal, Protocol, change_steps, pending_steps, view_after_all}
-use Rattle.pool_protocol.specs.ProtocolMove.{Commit, SendLease, MayAll, IsLogged, removals_with, steps_of, protocol_after, protocol_after_all}
-use Rattle.pool_view.specs.AbstractPool.{AbstractPool, IsIn, Stands, HasCore}
-use Rattle.pool_view.specs.Ads.{core_of}
+use Rattle.pool_protocol.specs.Protocol.{Change, Hidden, Submission, OfJob, Removal, Protocol, change_steps, pending_steps, view_after_all}
+use Rattle.pool_protocol.specs.ProtocolMove.{Commit, removals_with, protocol_after}
+use Rattle.pool_view.specs.AbstractPool.{AbstractPool, IsIn}
 use Rattle.pool_view.specs.Numbers.{same_job}
-use Rattle.pool_view.specs.declared.job.Entry.{Entry}
 use Rattle.pool_view.specs.declared.job.State.{State}
 use Rattle.pool_view.specs.declared.job.State.TheVariants as state
-use Rattle.pool_view.proofs.Cores.{core_of_request}
 use Rattle.pool_view.proofs.Sameness.{same_job-true}
 use Rattle.queue_tx.specs.declared.key.Key.TheVariants.{Proc}
 use Rattle.queue_tx.specs.declared.kind.JobKind.TheVariants as kind
@@ -30,20 +22,14 @@ use Rattle.schedd_plan.specs.declared.plan.JobPlan.TheVariants as plan
 use Rattle.schedd_plan.specs.declared.status.JobStatus.{JobStatus}
 use Rattle.schedd_plan.specs.declared.status.JobStatus.TheVariants as status
 use Rattle.schedd_plan.specs.Plans.{job_of, plan_ops}
-use Rattle.schedd_plan.specs.Reading.{lease_until, status_by, status_of}
-use Rattle.schedd_table.specs.declared.runs.KeptRun.{KeptRun}
-use Rattle.schedd_table.specs.JobPlaces.{is_left}
-use Rattle.schedd_table.specs.KeptRuns.{run_of, is_of_job, place_of_job}
-use Rattle.schedd_core.specs.JobStates.{NamesRun, ShowsJobs}
-use Rattle.schedd_core.specs.Logging.{run_in, run_at_place, run_of_job, stops, is_marked, is_stopped_by, is_stopped, stop_where, alives, activates, numbered, mails_of_plan, after_plan}
-use Rattle.schedd_core.specs.PlanChanges.{change_at, change_by, change_of, lease_moves, told_leases, moves_of_logged, idle_change, held_change, complete_change}
-use Rattle.schedd_core.specs.ScheddParts.{IsMarked, IsPart, IsOrdered, Fits, IsUnderRun, IsThere, IsFitting, IsRunIn, IsGrantOf, IsAllowed, IsLeased}
+use Rattle.schedd_plan.specs.Reading.{status_by, status_of}
+use Rattle.schedd_core.specs.JobStates.{ShowsJobs}
+use Rattle.schedd_core.specs.Logging.{after_plan}
+use Rattle.schedd_core.specs.PlanChanges.{change_at, change_by, change_of, idle_change, held_change, complete_change}
+use Rattle.schedd_core.specs.ScheddParts.{IsMarked, IsPart, IsOrdered, IsFitting}
 use Rattle.schedd_core.specs.Schedds.{ScheddValue}
-use Rattle.schedd_core.proofs.FitsAfter.{ad_by}
-use Rattle.schedd_core.proofs.Places.{in_at, passes_at}
-use Rattle.schedd_core.proofs.PlanAds.{with_status, marked_held, runless, lengthened, granted, status_at, status_set, status_marked, status_runless, status_lengthened, status_granted, claim_at, claim_lengthened, has_claim, under_kind, run_kind, run_granted, natural_pos}
-use Rattle.schedd_core.proofs.PlanJobs.{plan_ad, ad_of_plan, ad_elsewhere, left_after, jobs_after_plan, plan_there, Shown, shown, shown_at, kind_there, UnderAd, under_ad}
-use Rattle.schedd_core.proofs.PlanMay.{UnderRun, under_run, stands_as, shown_is, one_run}
+use Rattle.schedd_core.proofs.PlanAds.{with_status, marked_held, runless, lengthened, granted, status_at, status_set, status_marked, status_runless, status_lengthened, status_granted, claim_lengthened, has_claim, under_kind}
+use Rattle.schedd_core.proofs.PlanJobs.{plan_ad, ad_of_plan, ad_elsewhere, left_after, jobs_after_plan, plan_there, Shown, shown}
 
 -- ---- the schedd after a plan
 pub left_is : (p : JobPlan) (v : ScheddValue) → (after_plan p v).left ≡ left_after p v.left

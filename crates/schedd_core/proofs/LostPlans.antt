@@ -1,12 +1,11 @@
 -- A schedd that comes back is as if the event whose plan was lost had not been.
-use Rattle.std.proofs.Common.{◌≡◌, ℕ, ◌+◌, Bool, true, false, cond, not, ◌&&◌, List, [], ◌∷◌, slice_get, position, Option, Some, None, is_some, is_none, refl, ap, sym, ◌∙◌, subst}
+use Rattle.std.proofs.Common.{◌≡◌, ℕ, ◌+◌, Bool, true, false, cond, not, ◌&&◌, List, [], slice_get, Option, Some, None, is_some, is_none, refl, ap, sym, ◌∙◌, subst}
 use Rattle.ad_names.specs.declared.job.TheConstants.{PERIODIC_HOLD, PERIODIC_REMOVE, PERIODIC_RELEASE}
 use Rattle.ad_tree.specs.Ad.{Attributes}
 use Rattle.claim_id.specs.declared.numbers.ClaimId.{ClaimId}
 use Rattle.claim_id.specs.declared.numbers.JobId.{JobId}
 use Rattle.pool_mail.specs.declared.mail.Mail.{Mail}
 use Rattle.pool_mail.specs.declared.mail.Mail.TheVariants as mail
-use Rattle.pool_mail.specs.declared.settings.Settings.{Settings}
 use Rattle.pool_mail.specs.declared.why.Why.{Why}
 use Rattle.queue_tx.specs.declared.key.Key.{Key}
 use Rattle.queue_tx.specs.declared.key.Key.TheVariants.{Header, Proc}
@@ -20,7 +19,6 @@ use Rattle.schedd_plan.specs.declared.status.JobStatus.TheVariants as status
 use Rattle.schedd_table.specs.declared.claims.KeptClaim.{KeptClaim}
 use Rattle.schedd_table.specs.declared.claims.Stage.{Stage}
 use Rattle.schedd_table.specs.declared.claims.Stage.TheVariants as stage
-use Rattle.schedd_table.specs.declared.mail.MailRow.{MailRow}
 use Rattle.schedd_table.specs.declared.mail.MailRow.TheVariants as row
 use Rattle.schedd_table.specs.declared.places.JobPlace.{JobPlace}
 use Rattle.schedd_table.specs.declared.places.JobPlace.TheVariants as place
@@ -31,13 +29,13 @@ use Rattle.schedd_table.specs.EndTable.{ended_ad_plan, is_asked_by}
 use Rattle.schedd_table.specs.JobPlaces.{job_place, let_go}
 use Rattle.schedd_table.specs.KeptClaims.{place_of_claim, engages}
 use Rattle.schedd_table.specs.KeptRuns.{place_of_run}
-use Rattle.schedd_table.specs.MailTable.{is_idle_place, granted_at, granted_row, is_spent_why, denied_claim, denied_row, order_row, fate_of_gone}
+use Rattle.schedd_table.specs.MailTable.{is_idle_place, granted_at, granted_row, is_spent_why, denied_claim, denied_row, order_row}
 use Rattle.schedd_table.specs.OrderTable.{remove_plan, hold_plan, resume_plan, resume_marked, can_be_held, is_waiting}
 use Rattle.schedd_core.specs.declared.answer.ScheddStep.{ScheddStep}
 use Rattle.schedd_core.specs.Checks.{policy_plan, after_check_by, after_check, with_look}
 use Rattle.schedd_core.specs.Logging.{reopened, IsReopened}
-use Rattle.schedd_core.specs.Reopening.{IsReader, next_after, is_under_at, under_by, is_under_kind, still_left, found_runs, found_claims}
-use Rattle.schedd_core.specs.Rows.{stage_known, run_at, known_job, seen_at, gone_at, gone_row, ended_at, ended_with, ended_row, mail_row, noted_in, asked_in, after_row, after_mail}
+use Rattle.schedd_core.specs.Reopening.{next_after, is_under_at, under_by, is_under_kind, still_left, found_runs, found_claims}
+use Rattle.schedd_core.specs.Rows.{stage_known, run_at, known_job, seen_at, gone_at, ended_at, ended_with, mail_row, noted_in, asked_in, after_row, after_mail}
 use Rattle.schedd_core.specs.Schedds.{ScheddValue, waits_for}
 use Rattle.schedd_core.specs.Ticks.{tick_line, IsSought, after_past, lengthened_by, after_lengthen, granted_by, after_grant, after_give_up, after_line, IsTicked}
 use Rattle.schedd_core.proofs.FitsAfter.{Frees}

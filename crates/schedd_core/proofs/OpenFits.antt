@@ -1,40 +1,25 @@
 -- A schedd fits its queue when the pool opens, and when it comes back after a crash.
-use Rattle.std.proofs.Common.{◌≡◌, ◌≢◌, ◌⊎◌, inl, inr, ℕ, Bool, true, false, cond, List, [], ◌∷◌, ◌++◌, filter, Option, Some, None, IsSomeAnd, refl, ap, sym, ◌∙◌, subst}
+use Rattle.std.proofs.Common.{◌≡◌, ◌⊎◌, inl, inr, true, false, List, [], ◌∷◌, Option, Some, None, refl, ap, sym, ◌∙◌, subst}
 use Rattle.std.specs.declared.cmp.Ordering.{Ordering}
 use Rattle.std.specs.declared.cmp.Ordering.TheVariants.{Less, Equal, Greater}
 use Rattle.std.specs.Ordering.{is_lt, is_gt}
-use Rattle.ad_value.specs.Content.{text}
-use Rattle.ad_names.specs.declared.pool.TheConstants.{RUN_CLAIM}
-use Rattle.ad_tree.specs.Tree.{Tree, literal}
-use Rattle.ad_tree.specs.Ad.{Attributes, lookup}
-use Rattle.claim_id.specs.declared.numbers.ClaimId.{ClaimId}
+use Rattle.ad_tree.specs.Ad.{Attributes}
 use Rattle.claim_id.specs.declared.numbers.JobId.{JobId}
-use Rattle.claim_id.specs.Texts.{claim_text, IsClaim}
 use Rattle.pool_mail.specs.declared.settings.Settings.{Settings}
 use Rattle.pool_view.specs.AbstractPool.{IsIn}
-use Rattle.pool_view.proofs.Members.{in_filter, passes, passing_in}
 use Rattle.queue_tx.specs.declared.key.Key.{Key}
 use Rattle.queue_tx.specs.declared.key.Key.TheVariants.{Header, Proc}
 use Rattle.queue_tx.specs.declared.kind.JobKind.TheVariants as kind
 use Rattle.queue_tx.specs.Jobs.{IsJobOf, kind_under}
 use Rattle.queue_tx.specs.Keys.{key_cmp}
-use Rattle.queue_tx.specs.Kinds.{kind_of}
 use Rattle.queue_tx.specs.Queues.{KeyedAds, ad_at}
 use Rattle.queue_tx.proofs.Queues.{exact_keys}
-use Rattle.schedd_plan.specs.Reading.{run_number}
-use Rattle.schedd_table.specs.declared.runs.KeptRun.{KeptRun}
-use Rattle.schedd_table.specs.declared.claims.KeptClaim.{KeptClaim}
-use Rattle.schedd_table.specs.JobPlaces.{is_left}
-use Rattle.schedd_core.specs.JobStates.{NamesRun}
-use Rattle.schedd_core.specs.Logging.{reopened, IsReopened}
-use Rattle.schedd_core.specs.Reopening.{IsReader, claim_in_tree, claim_by, claim_in, run_named, run_found, run_by, found_run, one_run, found_behind, found_runs, one_claim, claims_behind, found_claims, is_under_kind, under_by, is_under_at, still_left}
-use Rattle.schedd_core.specs.ScheddParts.{IsOrdered, IsUnderRun, AreOfDifferentJobs, FitsWith, Fits}
-use Rattle.schedd_core.specs.Schedds.{ScheddValue, opened, IsOpened}
-use Rattle.schedd_core.specs.Searches.{is_later, AreUnder, IsNextUnder}
-use Rattle.schedd_core.proofs.FitsAfter.{run_is_under}
-use Rattle.schedd_core.proofs.PlanAds.{has_claim, under_kind}
+use Rattle.schedd_core.specs.Reopening.{is_under_kind, under_by, is_under_at}
+use Rattle.schedd_core.specs.ScheddParts.{IsOrdered, Fits}
+use Rattle.schedd_core.specs.Schedds.{ScheddValue, IsOpened}
+use Rattle.schedd_core.specs.Searches.{is_later, AreUnder}
 use Rattle.schedd_core.proofs.PlanJobs.{under_ad}
-use Rattle.schedd_core.proofs.PlanMay.{in_left, left_in}
+use Rattle.schedd_core.proofs.PlanMay.{in_left}
 
 -- ---- the jobs under a claim, in a list
 pub job_under : (q : KeyedAds) (job : JobId) → is_under_at q job ≡ true → IsJobOf kind.Under q (Proc job)

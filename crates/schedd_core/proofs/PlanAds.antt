@@ -1,24 +1,22 @@
 -- What the ad that a plan leaves says of its job.
-use Rattle.std.proofs.Common.{◌≡◌, ℕ, pos, negsuc, ◌<◌, Bool, true, false, cond, List, [], ◌∷◌, Option, Some, None, is_some, IsSome, IsSomeAnd, refl, ap, sym, ◌∙◌, subst, arith}
+use Rattle.std.proofs.Common.{◌≡◌, ℕ, pos, negsuc, Bool, true, false, cond, Option, Some, None, is_some, refl, ap, ◌∙◌, arith}
 use Rattle.std.specs.Prelude.{nat_lt, ◌==◌, ◌||◌}
 use Rattle.std.proofs.lemmas.Bool.{ltb-true}
-use Rattle.ad_value.specs.Content.{integer, text}
-use Rattle.ad_value.specs.Names.{same_name}
+use Rattle.ad_value.specs.Content.{integer}
 use Rattle.ad_names.specs.declared.job.TheConstants.{JOB_STATUS}
 use Rattle.ad_names.specs.declared.pool.TheConstants.{HOLD_REASON, RUN_CLAIM, RUN_NUMBER, LEASE_UNTIL}
 use Rattle.ad_rows.specs.Rows.{integer_literal, text_literal}
 use Rattle.ad_tree.specs.Tree.{Tree, literal}
 use Rattle.ad_tree.specs.Ad.{Attributes, lookup, with_attribute, without, AreDistinct}
-use Rattle.ad_tree.proofs.AdLemmas.{AreDistinct-with_attribute, AreDistinct-without}
+use Rattle.ad_tree.proofs.AdLemmas.{AreDistinct-with_attribute}
 use Rattle.claim_id.specs.declared.numbers.ClaimId.{ClaimId}
 use Rattle.claim_id.specs.Texts.{claim_text, IsClaim}
 use Rattle.pool_view.specs.Ads.{core_of}
 use Rattle.queue_tx.specs.declared.kind.JobKind.{JobKind}
 use Rattle.queue_tx.specs.declared.kind.JobKind.TheVariants.{Idle, Held, Under}
-use Rattle.queue_tx.specs.Kinds.{kind_of, kind_by, kind_numbered}
+use Rattle.queue_tx.specs.Kinds.{kind_of, kind_by}
 use Rattle.schedd_plan.specs.declared.reason.Reason.{Reason}
-use Rattle.schedd_plan.specs.declared.status.JobStatus.TheVariants as status
-use Rattle.schedd_plan.specs.Reading.{natural, natural_by, run_number, lease_until, reason_text, status_by, status_of}
+use Rattle.schedd_plan.specs.Reading.{natural, natural_by, lease_until, reason_text}
 use Rattle.schedd_core.specs.JobStates.{NamesRun}
 use Rattle.schedd_core.proofs.AdChanges.{set_elsewhere, set_there, removed_elsewhere, removed_there, core_of_set, core_of_without}
 

@@ -1,13 +1,11 @@
 -- What a plan leaves of the jobs once it is logged.
-use Rattle.std.proofs.Common.{◌≡◌, ◌≢◌, ◌⊎◌, inl, inr, ℕ, Bool, true, false, cond, not, ◌||◌, List, [], ◌∷◌, ◌++◌, filter, Option, Some, None, is_some, IsSome, IsSomeAnd, IfSome, refl, ap, sym, ◌∙◌, subst}
+use Rattle.std.proofs.Common.{◌≡◌, ℕ, Bool, true, false, cond, not, ◌||◌, List, [], ◌∷◌, Option, Some, None, is_some, IsSome, IsSomeAnd, IfSome, refl, ap, sym, ◌∙◌, subst}
 use Rattle.std.specs.Prelude.{Ok, option_map}
-use Rattle.std.specs.List.{list_any}
-use Rattle.ad_tree.specs.Ad.{Attributes, AreDistinct}
+use Rattle.ad_tree.specs.Ad.{Attributes}
 use Rattle.claim_id.specs.declared.numbers.ClaimId.{ClaimId}
 use Rattle.claim_id.specs.declared.numbers.JobId.{JobId}
-use Rattle.pool_protocol.specs.Protocol.{Change, Hidden, OfJob, Removal, change_steps, view_after_all}
-use Rattle.pool_protocol.specs.ProtocolMove.{removals_with}
-use Rattle.pool_view.specs.AbstractPool.{AbstractPool, IsIn}
+use Rattle.pool_protocol.specs.Protocol.{change_steps, view_after_all}
+use Rattle.pool_view.specs.AbstractPool.{AbstractPool}
 use Rattle.pool_view.specs.AbstractStep.{entry_with_state, with_state, with_lease_end}
 use Rattle.pool_view.specs.Ads.{core_of}
 use Rattle.pool_view.specs.Numbers.{same_job}
@@ -16,29 +14,25 @@ use Rattle.pool_view.specs.declared.job.Outcome.{Outcome}
 use Rattle.pool_view.specs.declared.job.Outcome.TheVariants.{Removed, EndedBy}
 use Rattle.pool_view.specs.declared.job.State.{State}
 use Rattle.pool_view.specs.declared.job.State.TheVariants as state
-use Rattle.pool_view.proofs.Sameness.{same_job-true, same_job-same, other_job}
-use Rattle.queue_tx.specs.declared.key.Key.TheVariants.{Header, Proc}
+use Rattle.pool_view.proofs.Sameness.{same_job-true, same_job-same}
+use Rattle.queue_tx.specs.declared.key.Key.TheVariants.{Proc}
 use Rattle.queue_tx.specs.declared.kind.JobKind.{JobKind}
 use Rattle.queue_tx.specs.declared.kind.JobKind.TheVariants as kind
 use Rattle.queue_tx.specs.Keys.{same_key, same_key_laws}
 use Rattle.queue_tx.specs.Kinds.{kind_of}
-use Rattle.queue_tx.specs.Operations.{Operation}
 use Rattle.queue_tx.specs.Queues.{KeyedAds, IsQueue, ad_at, queue_after}
-use Rattle.schedd_plan.specs.declared.plan.Completion.{Completion}
 use Rattle.schedd_plan.specs.declared.plan.Completion.TheVariants.{Exited, Signalled}
 use Rattle.schedd_plan.specs.declared.plan.JobPlan.{JobPlan}
 use Rattle.schedd_plan.specs.declared.plan.JobPlan.TheVariants as plan
-use Rattle.schedd_plan.specs.declared.status.JobStatus.TheVariants as status
 use Rattle.schedd_plan.specs.Plans.{job_of, plan_ops, run_ops, next_run_ops, header_op}
-use Rattle.schedd_plan.specs.Reading.{status_by, status_of}
 use Rattle.schedd_table.specs.JobPlaces.{is_left}
 use Rattle.schedd_core.specs.JobStates.{NamesRun, ShowsState, ShowsEntry, ShowsJob, ShowsJobs, IsDone}
 use Rattle.schedd_core.specs.Logging.{taken_off, numbered}
 use Rattle.schedd_core.specs.PlanChanges.{Jobs, idle_change, held_change, complete_change, change_at, change_by, change_of, how_of}
 use Rattle.schedd_core.specs.Reopening.{is_under_kind, under_by, is_under_at}
-use Rattle.schedd_core.specs.ScheddParts.{IsMarked, IsOrdered, IsThere, IsFitting}
-use Rattle.schedd_core.proofs.PlanAds.{with_status, marked_held, runless, lengthened, granted, core_status, core_marked, core_runless, core_lengthened, core_granted, claim_at, status_at, status_set, status_marked, status_runless, status_lengthened, status_granted, idle_kind, held_kind, has_claim, under_kind, run_kind, run_status, run_marked, run_lengthened, run_granted, claim_status, claim_marked, claim_lengthened, kind_with}
-use Rattle.schedd_core.proofs.QueueChanges.{made_at, ops_at, AllHere, AllElsewhere, made_all, made_here, made_elsewhere, made_appended, same_proc}
+use Rattle.schedd_core.specs.ScheddParts.{IsOrdered, IsThere, IsFitting}
+use Rattle.schedd_core.proofs.PlanAds.{with_status, marked_held, runless, lengthened, granted, core_status, core_marked, core_runless, core_lengthened, core_granted, idle_kind, held_kind, has_claim, under_kind, run_status, run_marked, run_lengthened, run_granted, claim_status, claim_marked, claim_lengthened}
+use Rattle.schedd_core.proofs.QueueChanges.{made_at, ops_at, AllElsewhere, made_all, made_here, made_elsewhere, made_appended, same_proc}
 
 -- ---- the ad of a plan's job
 unfoldable pub plan_ad : JobPlan → Attributes → Option Attributes

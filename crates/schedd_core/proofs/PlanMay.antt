@@ -1,23 +1,18 @@
 -- What the schedd sees is the protocol's condition for the change that it plans.
-use Rattle.std.proofs.Common.{◌≡◌, ◌≢◌, ◌⊎◌, inl, inr, ℕ, ◌+◌, ◌≤◌, max, Bool, true, false, true≢false, cond, ◌&&◌, ◌||◌, ◌==◌, List, [], ◌∷◌, Option, Some, None, is_some, IsSome, IsSomeAnd, refl, ap, sym, ◌∙◌, subst, arith}
-use Rattle.std.specs.Prelude.{nat_le}
-use Rattle.std.specs.List.{list_any}
+use Rattle.std.proofs.Common.{◌≡◌, ◌⊎◌, inl, inr, ℕ, ◌≤◌, Bool, true, false, cond, ◌&&◌, ◌||◌, ◌==◌, List, [], ◌∷◌, Option, Some, None, is_some, IsSomeAnd, refl, ap, sym, ◌∙◌, subst}
 use Rattle.std.proofs.lemmas.Bool.{eqb-true}
 use Rattle.ad_value.specs.Content.{text}
-use Rattle.ad_names.specs.declared.pool.TheConstants.{RUN_CLAIM}
 use Rattle.ad_tree.specs.Tree.{Tree, literal}
-use Rattle.ad_tree.specs.Ad.{Attributes, lookup}
+use Rattle.ad_tree.specs.Ad.{Attributes}
 use Rattle.claim_id.specs.declared.numbers.ClaimId.{ClaimId}
 use Rattle.claim_id.specs.declared.numbers.ClaimNo.{ClaimNo}
 use Rattle.claim_id.specs.declared.numbers.JobId.{JobId}
 use Rattle.claim_id.specs.declared.numbers.RunNo.{RunNo}
-use Rattle.claim_id.specs.declared.numbers.SlotId.{SlotId}
-use Rattle.claim_id.specs.Texts.{claim_text, IsClaim}
 use Rattle.claim_id.proofs.OneText.{one_claim}
 use Rattle.pool_mail.specs.declared.end.How.{How}
 use Rattle.pool_mail.specs.declared.end.How.TheVariants as how
-use Rattle.pool_protocol.specs.Protocol.{Protocol, Change}
-use Rattle.pool_protocol.specs.ProtocolMove.{Pend, TakeOrder, IsSaidOver, MayLetGo, MayPend, MayAll, protocol_after}
+use Rattle.pool_protocol.specs.Protocol.{Protocol}
+use Rattle.pool_protocol.specs.ProtocolMove.{IsSaidOver, MayLetGo, MayPend, MayAll}
 use Rattle.pool_view.specs.AbstractPool.{IsIn, Stands}
 use Rattle.pool_view.specs.AbstractStep.{IsWaiting}
 use Rattle.pool_view.specs.Ads.{core_of}
@@ -27,7 +22,6 @@ use Rattle.pool_view.specs.declared.job.State.{State}
 use Rattle.pool_view.specs.declared.job.State.TheVariants as state
 use Rattle.pool_view.proofs.Sameness.{both_true, same_job-true, same_job-same, same_slot-true}
 use Rattle.queue_tx.specs.declared.key.Key.TheVariants.{Proc}
-use Rattle.queue_tx.specs.declared.kind.JobKind.{JobKind}
 use Rattle.queue_tx.specs.declared.kind.JobKind.TheVariants as kind
 use Rattle.queue_tx.specs.Kinds.{kind_of}
 use Rattle.queue_tx.specs.Queues.{KeyedAds, ad_at}
@@ -39,21 +33,17 @@ use Rattle.schedd_plan.specs.declared.reason.Reason.{Reason}
 use Rattle.schedd_plan.specs.declared.status.JobStatus.{JobStatus}
 use Rattle.schedd_plan.specs.declared.status.JobStatus.TheVariants as status
 use Rattle.schedd_plan.specs.Plans.{job_of}
-use Rattle.schedd_plan.specs.Reading.{lease_until, run_number, status_of}
-use Rattle.schedd_table.specs.declared.places.JobPlace.{JobPlace}
-use Rattle.schedd_table.specs.declared.places.JobPlace.TheVariants as place
+use Rattle.schedd_plan.specs.Reading.{status_of}
 use Rattle.schedd_table.specs.declared.runs.KeptRun.{KeptRun}
-use Rattle.schedd_table.specs.EndTable.{is_asked_by, ad_after_exit, is_remove_asked, plan_by_policy, plan_at_end, completed_plan, unmarked_plan, failed_plan, completion_of, plan_of_end, ended_ad_plan}
-use Rattle.schedd_table.specs.JobPlaces.{is_left, kind_place, place_in, place_by, job_place, let_go_by, let_go_ad, let_go_in, let_go}
+use Rattle.schedd_table.specs.EndTable.{is_asked_by, ad_after_exit, is_remove_asked, plan_at_end, completed_plan, unmarked_plan, failed_plan, completion_of, plan_of_end, ended_ad_plan}
+use Rattle.schedd_table.specs.JobPlaces.{is_left, let_go_by, let_go_in, let_go}
 use Rattle.schedd_table.specs.KeptRuns.{run_of, is_run}
-use Rattle.schedd_table.specs.OrderTable.{remove_plan, hold_plan, hold_left, hold_under, resume_plan, resume_marked}
 use Rattle.schedd_core.specs.JobStates.{NamesRun, ShowsState}
-use Rattle.schedd_core.specs.PlanChanges.{idle_change, held_change, change_at, change_by, change_of, how_of, pends, order_moves, moves_of_order}
-use Rattle.schedd_core.specs.Reopening.{is_under_at}
-use Rattle.schedd_core.specs.ScheddParts.{IsMarked, IsPart, IsUnderRun, Fits}
+use Rattle.schedd_core.specs.PlanChanges.{idle_change, held_change, change_at, change_by, how_of, pends}
+use Rattle.schedd_core.specs.ScheddParts.{IsPart, IsUnderRun}
 use Rattle.schedd_core.specs.Schedds.{ScheddValue}
 use Rattle.schedd_core.proofs.PlanAds.{run_kind}
-use Rattle.schedd_core.proofs.PlanJobs.{Shown, shown_at, under_ad, kind_there}
+use Rattle.schedd_core.proofs.PlanJobs.{shown_at}
 
 -- ---- the run of an ad is one
 text_of : Option Tree → List ℕ

@@ -1,9 +1,6 @@
 -- What a transaction leaves under each key of a queue.
 use Rattle.std.proofs.Common.{◌≡◌, ℕ, ◌+◌, Bool, true, false, cond, List, [], ◌∷◌, ◌++◌, Option, Some, None, Result, Ok, Err, refl, ap, sym, ◌∙◌, subst}
 use Rattle.std.specs.List.Sorted.{IsStrictlySortedBy}
-use Rattle.std.specs.Ordering.{is_eq}
-use Rattle.std.specs.declared.cmp.Ordering.{Ordering}
-use Rattle.std.specs.declared.cmp.Ordering.TheVariants.{Less, Equal, Greater}
 use Rattle.claim_id.specs.declared.numbers.JobId.{JobId}
 use Rattle.ad_tree.specs.Ad.{Attributes, with_attribute, without, AreDistinct}
 use Rattle.ad_tree.proofs.AdLemmas.{AreDistinct-with_attribute, AreDistinct-without}
@@ -13,7 +10,7 @@ use Rattle.queue_tx.specs.declared.error.ApplyError.{ApplyError}
 use Rattle.queue_tx.specs.declared.error.ApplyError.TheVariants.{Full}
 use Rattle.queue_tx.specs.declared.key.Key.{Key}
 use Rattle.queue_tx.specs.declared.key.Key.TheVariants.{Header, Proc}
-use Rattle.queue_tx.specs.Keys.{key_cmp, same_key, same_key_laws}
+use Rattle.queue_tx.specs.Keys.{same_key, same_key_laws}
 use Rattle.queue_tx.specs.Operations.{Operation, key_of, new_ad, destroy_ad, set_attr, delete_attr}
 use Rattle.queue_tx.specs.Queues.{KeyedAds, IsQueue, ad_at, ad_after, with_ad, put_back, after_op, after_ops, after_rest, queue_after, queue_after_all, QueueOf}
 use Rattle.queue_tx.specs.Room.{lacks_room}

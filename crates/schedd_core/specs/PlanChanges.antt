@@ -1,14 +1,13 @@
 -- The changes of the protocol that plans are, and the moves that events are.
-use Rattle.std.specs.Prelude.{◌≡◌, ℕ, List, [], ◌∷◌, Option, Some, None}
+use Rattle.std.specs.Prelude.{ℕ, List, [], ◌∷◌, Option, Some, None}
 use Rattle.ad_tree.specs.Ad.{Attributes}
-use Rattle.claim_id.specs.declared.numbers.ClaimId.{ClaimId}
 use Rattle.claim_id.specs.declared.numbers.JobId.{JobId}
 use Rattle.claim_id.specs.declared.numbers.RunNo.{RunNo}
 use Rattle.pool_mail.specs.declared.end.How.{How}
 use Rattle.pool_mail.specs.declared.end.How.TheVariants as how
 use Rattle.pool_mail.specs.declared.mail.Mail.{Mail}
 use Rattle.pool_mail.specs.declared.mail.Mail.TheVariants as mail
-use Rattle.pool_protocol.specs.Protocol.{Lease, Change, Hidden, OfJob, Removal}
+use Rattle.pool_protocol.specs.Protocol.{Change, Hidden, OfJob, Removal}
 use Rattle.pool_protocol.specs.ProtocolMove.{ProtocolMove, Pend, Commit, TakeOrder, SendLease}
 use Rattle.pool_view.specs.AbstractStep.{Grant, Free, Finish, Hold, Release, Lengthen}
 use Rattle.pool_view.specs.Ads.{core_of}

@@ -1,5 +1,5 @@
 -- A schedd as a part of the protocol, and how it fits its queue.
-use Rattle.std.specs.Prelude.{◌≡◌, ◌≢◌, ℕ, ◌≤◌, Bool, true, false, List, [], ◌∷◌, Option, Some, None, Ok, IsSome, IsSomeAnd, MatchOption}
+use Rattle.std.specs.Prelude.{◌≡◌, ◌≢◌, ℕ, ◌≤◌, true, false, List, [], ◌∷◌, Some, Ok, IsSome, IsSomeAnd, MatchOption}
 use Rattle.ad_tree.specs.Ad.{Attributes, AreDistinct}
 use Rattle.claim_id.specs.declared.numbers.ClaimId.{ClaimId}
 use Rattle.claim_id.specs.declared.numbers.JobId.{JobId}
