@@ -5,3 +5,6 @@ pub mod Rows
 pub mod Ticks
 pub mod Checks
 pub mod Logging
+pub mod JobStates
+pub mod PlanChanges
+pub mod ScheddParts

@@ -446,8 +446,8 @@ impl Schedd {
         }
     }
 
-    /// Whether a tick is due at a reading. Computes in O(runs times log jobs + claims times runs),
-    /// without memory.
+    /// Whether a tick is due at a reading. Computes in O((runs + claims) times log jobs + claims
+    /// times runs), without memory.
     pub fn due(&self, queue: &Queue, reading: u64) -> bool
         ensures { result ≡ is_due self.now queue.now reading }
     {
@@ -456,8 +456,9 @@ impl Schedd {
 
     /// Time passes: the first thing that is due is done; nothing where nothing is. The queue is the
     /// one as logged, and no transaction is unfinished. Memory too where a number is 2 to the 64 or
-    /// more. After an error the schedd is as it was. Computes as `due`, and as
-    /// `Queue::first_asking` where a claim looks for another job.
+    /// more. After an error the schedd is as it was. Computes as `due`, with an evaluation of
+    /// JobLeaseDuration for a lease, and where a claim looks for another job as
+    /// `Queue::first_asking`, and in O(claims), for each engaged job up to the one that it gets.
     pub fn tick(&mut self, alloc: Global, queue: &Queue, reading: u64) -> Result<ScheddStep, Memory>
         ensures ticked { IfOk result (λ step. IsTicked self.old queue.now reading self.new step) }
         ensures kept { OnErr result (self.new ≡ self.old) }
