@@ -122,8 +122,9 @@ fn queue_of(alloc: Global, bidders: Vec<Bidder>) -> Result<VecDeque<Bidder>, Mem
 
 /// The matches of a cycle, in the order in which they are made, as `plain_cycle` gives them. One
 /// request of each submitter's autocluster is judged with each slot at most. Computes in
-/// O(autoclusters × slots) judgements, in O(requests × autoclusters) comparisons, and in
-/// O(requests × slots) looks at slots, with two evaluations each where the slot has a holder.
+/// O(autoclusters × slots) judgements, in a `Clusters::cluster_of` for each request, and in
+/// O(requests × slots) looks at slots, with two evaluations each where the slot has a holder. Each
+/// look compares the slot with those that the cycle gave so far.
 pub fn cycle<L: Ledger>(
     alloc: Global,
     snapshot: &Snapshot,
