@@ -3,10 +3,12 @@
 //!
 //! `next PAIR CUE`, `claim TEXT`, `claim-text MACHINE SLOT BOOT SEQ SECRET`, `job TEXT`,
 //! `job-text CLUSTER PROC`, `safe PART ..`, and the mails, ends of runs, ticks and boots of a
-//! startd: README.md says what each answers.
+//! startd, or the mails, ticks, checks, transactions and crashes of a schedd: README.md says what
+//! each answers.
 #![tactic(auto)]
 
 mod answers;
+mod daemon;
 mod judging;
 mod pairs;
 mod startds;

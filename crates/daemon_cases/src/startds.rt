@@ -1,6 +1,3 @@
-ghost use Rattle.std.specs.Prelude.{◌<◌, ◌≤◌, IfOk};
-ghost use Rattle.pool_mail.specs.declared.settings.TheConstants.{MAX_SECONDS};
-
 use crate::judging::judge_pair;
 use ad_eval::Judged;
 use ad_tree::Ad;
@@ -8,10 +5,10 @@ use ad_value::{Memory, Text};
 use cases::{Case, CaseError};
 use claim_id::SlotId;
 use daemon_texts::{
-    TextError, read_ad, read_end, read_mail, read_run, write_job, write_launch, write_mail,
-    write_run, write_runs,
+    interval_of, mail_of, read_ad, read_end, read_run, seconds_of, write_job, write_launch,
+    write_mails, write_run, write_runs,
 };
-use pool_mail::{Ending, MAX_SECONDS, Mail, Settings};
+use pool_mail::{Ending, Mail, Settings};
 use startd_core::{Permit, Startd, StartdAnswer, StartdStep, is_tick_tried};
 use std::alloc::{AllocError, Global};
 
@@ -36,14 +33,14 @@ pub(crate) fn new_startd(alloc: Global, case: Case<'_>) -> Result<Startd, CaseEr
         return Err(CaseError::Number { line: case.line });
     };
     let settings = Settings {
-        update_interval: interval(case, update)?,
-        match_timeout: interval(case, timeout)?,
-        claim_lease: interval(case, lease)?,
+        update_interval: interval_of(case, update)?,
+        match_timeout: interval_of(case, timeout)?,
+        claim_lease: interval_of(case, lease)?,
         job_lease: 1,
         alive_interval: 1,
         periodic_interval: 1,
-        retirement: seconds(case, retirement)?,
-        vacate: seconds(case, vacate)?,
+        retirement: seconds_of(case, retirement)?,
+        vacate: seconds_of(case, vacate)?,
     };
     Ok(Startd::new(
         alloc,
@@ -54,28 +51,6 @@ pub(crate) fn new_startd(alloc: Global, case: Case<'_>) -> Result<Startd, CaseEr
     ))
 }
 
-// Seconds of which there is at least one.
-fn interval(case: Case<'_>, field: &str) -> Result<u64, CaseError>
-    ensures { IfOk result (λ n. (0 < n) × (n ≤ MAX_SECONDS)) }
-{
-    match case.natural(field) {
-        Ok(0) => Err(CaseError::Number { line: case.line }),
-        Ok(number) if number <= MAX_SECONDS => Ok(number),
-        Ok(_) => Err(CaseError::Number { line: case.line }),
-        Err(error) => Err(error),
-    }
-}
-
-fn seconds(case: Case<'_>, field: &str) -> Result<u64, CaseError>
-    ensures { IfOk result (λ n. n ≤ MAX_SECONDS) }
-{
-    match case.natural(field) {
-        Ok(number) if number <= MAX_SECONDS => Ok(number),
-        Ok(_) => Err(CaseError::Number { line: case.line }),
-        Err(error) => Err(error),
-    }
-}
-
 /// `slot NAME AD`: one more slot.
 pub(crate) fn add_slot(
     alloc: Global,
@@ -83,11 +58,20 @@ pub(crate) fn add_slot(
     startd: &mut Startd,
 ) -> Result<(), CaseError> {
     let (name, ad) = case.two_fields()?;
-    let name = case.text(alloc, name)?;
-    let ad = case.text(alloc, ad)?;
-    let ad = at_line(case, read_ad(alloc, ad.as_str()))?;
-    let name = or_memory(Text::from_str(alloc, name.as_str()))?;
-    or_memory(startd.add_slot(name, ad))
+    let name = Text::from(case.text(alloc, name)?);
+    let ad = ad_of(alloc, case, ad)?;
+    match startd.add_slot(name, ad) {
+        Ok(()) => Ok(()),
+        Err(Memory) => Err(CaseError::Memory),
+    }
+}
+
+fn ad_of(alloc: Global, case: Case<'_>, field: &str) -> Result<Ad, CaseError> {
+    let text = case.text(alloc, field)?;
+    match read_ad(alloc, text.as_str()) {
+        Ok(ad) => Ok(ad),
+        Err(error) => Err(error.at_line(case.line)),
+    }
 }
 
 /// `receive MAIL READING`, `ended RUN END READING`, `tick READING`, `reboot READING`.
@@ -98,51 +82,81 @@ pub(crate) fn answer_startd(
     out: &mut String,
 ) -> Result<(), CaseError> {
     match case.kind {
-        "receive" => {
-            let (mail, reading) = case.two_fields()?;
-            let mail = case.text(alloc, mail)?;
-            let mail = at_line(case, read_mail(alloc, mail.as_str()))?;
-            let reading = case.natural(reading)?;
-            let judged = or_memory(judged(alloc, startd, &mail, reading))?;
-            write_step(alloc, startd.receive(alloc, &mail, judged, reading), out)
-        }
-        "ended" => {
-            let (run, end, reading) = case.three_fields()?;
-            let ending = Ending {
-                run: at_line(case, read_run(alloc, run))?,
-                end: at_line(case, read_end(end))?,
-            };
-            let reading = case.natural(reading)?;
-            write_step(alloc, startd.ended(alloc, &ending, reading), out)
-        }
-        "tick" => {
-            let reading = case.natural(case.one_field()?)?;
-            if !is_tick_tried(startd.due(alloc, reading)) {
-                out.push_str("NotDue")?;
-                return Ok(());
-            }
-            write_step(alloc, startd.tick(alloc, reading), out)
-        }
-        "reboot" => {
-            let reading = case.natural(case.one_field()?)?;
-            write_step(alloc, startd.reboot(alloc, reading), out)
-        }
+        "receive" => answer_receive(alloc, case, startd, out),
+        "ended" => answer_ended(alloc, case, startd, out),
+        "tick" => answer_tick(alloc, case, startd, out),
+        "reboot" => answer_reboot(alloc, case, startd, out),
         _ => Err(CaseError::Kind { line: case.line }),
     }
 }
 
-fn at_line<T: Drop>(case: Case<'_>, read: Result<T, TextError>) -> Result<T, CaseError> {
-    match read {
-        Ok(value) => Ok(value),
-        Err(error) => Err(error.at_line(case.line)),
+fn answer_receive(
+    alloc: Global,
+    case: Case<'_>,
+    startd: &mut Startd,
+    out: &mut String,
+) -> Result<(), CaseError> {
+    let (mail, reading) = case.two_fields()?;
+    let reading = case.natural(reading)?;
+    let mail = mail_of(alloc, case, mail)?;
+    take_mail(alloc, startd, &mail, reading, out)
+}
+
+fn take_mail(
+    alloc: Global,
+    startd: &mut Startd,
+    mail: &Mail,
+    reading: u64,
+    out: &mut String,
+) -> Result<(), CaseError> {
+    match judged(alloc, startd, mail, reading) {
+        Ok(judged) => write_step(alloc, startd.receive(alloc, mail, judged, reading), out),
+        Err(Memory) => Err(CaseError::Memory),
     }
 }
 
-fn or_memory<T: Drop>(made: Result<T, Memory>) -> Result<T, CaseError> {
-    match made {
-        Ok(value) => Ok(value),
-        Err(Memory) => Err(CaseError::Memory),
+fn answer_ended(
+    alloc: Global,
+    case: Case<'_>,
+    startd: &mut Startd,
+    out: &mut String,
+) -> Result<(), CaseError> {
+    let (run, end, reading) = case.three_fields()?;
+    let reading = case.natural(reading)?;
+    match (read_run(alloc, run), read_end(end)) {
+        (Ok(run), Ok(end)) => {
+            write_step(
+                alloc,
+                startd.ended(alloc, &Ending { run, end }, reading),
+                out,
+            )
+        }
+        (Err(error), _) | (_, Err(error)) => Err(error.at_line(case.line)),
     }
+}
+
+fn answer_tick(
+    alloc: Global,
+    case: Case<'_>,
+    startd: &mut Startd,
+    out: &mut String,
+) -> Result<(), CaseError> {
+    let reading = case.natural(case.one_field()?)?;
+    if !is_tick_tried(startd.due(alloc, reading)) {
+        out.push_str("NotDue")?;
+        return Ok(());
+    }
+    write_step(alloc, startd.tick(alloc, reading), out)
+}
+
+fn answer_reboot(
+    alloc: Global,
+    case: Case<'_>,
+    startd: &mut Startd,
+    out: &mut String,
+) -> Result<(), CaseError> {
+    let reading = case.natural(case.one_field()?)?;
+    write_step(alloc, startd.reboot(alloc, reading), out)
 }
 
 // What `judge` gives of the mail's ad and the ad of the slot with which it is judged.
@@ -185,15 +199,6 @@ fn write_step(
     let answered = write_answer(answer, out);
     wrote?;
     answered?;
-    Ok(())
-}
-
-fn write_mails(alloc: Global, mails: &[Mail], out: &mut String) -> Result<(), AllocError> {
-    out.push_str("ok")?;
-    for mail in mails {
-        out.push('\t')?;
-        write_mail(alloc, mail, out)?;
-    }
     Ok(())
 }
 

@@ -288,6 +288,16 @@ pub fn write_mail(alloc: Global, mail: &Mail, out: &mut String) -> Result<(), Al
     }
 }
 
+/// Appends an answer's `ok`, and each mail behind a tab. Computes in O(bytes).
+pub fn write_mails(alloc: Global, mails: &[Mail], out: &mut String) -> Result<(), AllocError> {
+    out.push_str("ok")?;
+    for mail in mails {
+        out.push('\t')?;
+        write_mail(alloc, mail, out)?;
+    }
+    Ok(())
+}
+
 // A mail without an ad, that has at most a run, or a claim or a job, and one more field.
 fn write_short(mail: &Mail, out: &mut String) -> Result<(), AllocError> {
     match mail {

@@ -1,0 +1,42 @@
+// Fields of cases.
+
+ghost use Rattle.std.specs.Prelude.{◌≤◌, IfOk};
+ghost use Rattle.pool_mail.specs.Seconds.{IsSeconds};
+ghost use Rattle.pool_mail.specs.declared.settings.TheConstants.{MAX_SECONDS};
+
+use crate::mail::read_mail;
+use cases::{Case, CaseError};
+use pool_mail::{MAX_SECONDS, Mail};
+use std::alloc::Global;
+
+/// The mail that a case's field says. Computes in O(bytes).
+pub fn mail_of(alloc: Global, case: Case<'_>, field: &str) -> Result<Mail, CaseError> {
+    let text = case.text(alloc, field)?;
+    match read_mail(alloc, text.as_str()) {
+        Ok(mail) => Ok(mail),
+        Err(error) => Err(error.at_line(case.line)),
+    }
+}
+
+/// The seconds that a case's field says, at most `MAX_SECONDS`. Computes in O(bytes).
+pub fn seconds_of(case: Case<'_>, field: &str) -> Result<u64, CaseError>
+    ensures { IfOk result (λ n. n ≤ MAX_SECONDS) }
+{
+    match case.natural(field) {
+        Ok(number) if number <= MAX_SECONDS => Ok(number),
+        Ok(_) => Err(CaseError::Number { line: case.line }),
+        Err(error) => Err(error),
+    }
+}
+
+/// The seconds that a case's field says, from 1 to `MAX_SECONDS`. Computes in O(bytes).
+pub fn interval_of(case: Case<'_>, field: &str) -> Result<u64, CaseError>
+    ensures { IfOk result IsSeconds }
+{
+    match case.natural(field) {
+        Ok(0) => Err(CaseError::Number { line: case.line }),
+        Ok(number) if number <= MAX_SECONDS => Ok(number),
+        Ok(_) => Err(CaseError::Number { line: case.line }),
+        Err(error) => Err(error),
+    }
+}
