@@ -1,8 +1,7 @@
 -- The startds of a pool at its opening.
-use Rattle.std.proofs.Common.{◌≡◌, ℕ, zero, suc, ◌+◌, ◌<◌, ◌^◌, List, [], ◌∷◌, ◌++◌, length, refl, ap, sym, ◌∙◌, add-one, length-append, arith}
+use Rattle.std.proofs.Common.{◌≡◌, ℕ, zero, suc, ◌+◌, List, [], ◌∷◌, ◌++◌, length, refl, ap, ◌∙◌, add-one, length-append}
 use Rattle.pool_outer.specs.declared.gate.Daemon.{Daemon}
 use Rattle.pool_outer.specs.declared.gate.Daemon.TheVariants.{Startd}
-use Rattle.pool_tables.specs.declared.states.DaemonState.{DaemonState}
 use Rattle.pool_tables.specs.DaemonTables.{first_startds, first_state}
 
 pub one_startd : (machine boot : ℕ) (crashes : List Daemon) → first_startds (machine + 1) boot crashes ≡ first_startds machine boot crashes ++ first_state boot (Startd machine) crashes ∷ []

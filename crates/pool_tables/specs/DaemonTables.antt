@@ -1,5 +1,5 @@
 -- Which daemons are up, and what is refused of those that are not.
-use Rattle.std.specs.Prelude.{ℕ, zero, suc, ◌+◌, ◌-◌, nat_lt, List, [], ◌∷◌, ◌++◌, Bool, true, false, not, ◌==◌, length, count_by, position, slice_get, slice_set, Option, Some, None, if◌then◌else◌}
+use Rattle.std.specs.Prelude.{ℕ, zero, suc, ◌-◌, nat_lt, List, [], ◌∷◌, ◌++◌, Bool, true, false, not, ◌==◌, length, count_by, position, slice_get, slice_set, Option, Some, None, if◌then◌else◌}
 use Rattle.pool_outer.specs.declared.gate.Daemon.{Daemon}
 use Rattle.pool_outer.specs.declared.gate.Daemon.TheVariants.{Schedd, Startd, Matchmaker}
 use Rattle.pool_tables.specs.declared.refusal.StepError.{StepError}

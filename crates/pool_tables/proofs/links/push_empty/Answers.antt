@@ -1,4 +1,4 @@
-use Rattle.std.proofs.Common.{◌≡◌, None, [], ◌∷◌, ◌++◌, List, ℕ, Option, sym, ap, ◌∙◌, add-one}
+use Rattle.std.proofs.Common.{None, [], ◌∷◌, ◌++◌, List, ℕ, Option, sym, ap, ◌∙◌, add-one}
 use Rattle.pool_tables.specs.Links.{empty_boxes}
 use Rattle.pool_tables.proofs.links.push_empty.Goals as goal
 

@@ -1,4 +1,4 @@
-use Rattle.std.proofs.Common.{◌≡◌, List, subst, sym, arith}
+use Rattle.std.proofs.Common.{List, subst, sym, arith}
 use Rattle.pool_tables.specs.declared.sent.Sent.{Sent}
 use Rattle.pool_tables.specs.Kept.{AreKept}
 use Rattle.pool_tables.proofs.Putting.{kept_received}
