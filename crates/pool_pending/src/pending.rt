@@ -1,0 +1,53 @@
+ghost use Rattle.std.specs.Prelude.{◌≡◌};
+ghost use Rattle.pool_pending.specs.Plans.{leaving_job, ordered_job};
+
+use claim_id::JobId;
+use queue_tx::Tx;
+use schedd_plan::JobPlan;
+
+/// What an unfinished transaction is to do.
+#[derive(Clone, Copy, Debug)]
+pub enum Unfinished {
+    /// So many jobs come into the queue, as one cluster.
+    Submission { cluster: u32, count: u32 },
+    /// A job's plan.
+    Plan { plan: JobPlan },
+}
+
+/// The unfinished transaction.
+pub struct Pending {
+    /// The place that it is to have on the log's roll.
+    pub number: u64,
+    pub tx: Tx,
+    pub what: Unfinished,
+}
+
+impl Drop for Pending {
+    fn drop(self) {
+        let Pending {
+            number: _,
+            tx: _tx,
+            what: _,
+        } = self;
+    }
+}
+
+/// The job that a plan takes out of the queue. Computes in O(1).
+pub fn leaving_job(plan: JobPlan) -> Option<JobId>
+    ensures { result ≡ leaving_job plan }
+{
+    match plan {
+        JobPlan::Complete { job, .. } | JobPlan::Remove { job } => Some(job),
+        _ => None,
+    }
+}
+
+/// The job that a plan removes, at once or when its run has ended. Computes in O(1).
+pub fn ordered_job(plan: Option<JobPlan>) -> Option<JobId>
+    ensures { result ≡ ordered_job plan }
+{
+    match plan {
+        Some(JobPlan::Remove { job }) | Some(JobPlan::MarkRemoved { job }) => Some(job),
+        _ => None,
+    }
+}

@@ -1,0 +1,5 @@
+pub mod Backwards
+pub mod Counting
+pub mod Putting
+pub mod Sending
+pub mod Startds
