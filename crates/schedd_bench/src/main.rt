@@ -1,0 +1,94 @@
+//! How long a schedd takes for a tick, and to say whether one is due.
+//!
+//! `schedd_bench N` makes a queue of 8 jobs under runs and N others: idle jobs that make the
+//! request of the claims, idle jobs that make another one, idle jobs with a periodic expression, or
+//! jobs that an earlier boot left. It prints what came of each, and on standard error how long
+//! `due`, ticks that lengthen a lease or let a job go, and ticks in which a claim seeks a job took.
+#![tactic(auto)]
+
+mod queues;
+mod schedds;
+
+use crate::queues::{Crowd, crowd_text, lone_text, read_queue, write_running};
+use crate::schedds::{back_again, due_often, end_claim, give_claim, seek, tick_often};
+use anyhow::{Context, Result};
+use queue_tx::Queue;
+use schedd_core::Schedd;
+use std::env;
+use std::time::Instant;
+
+// How many jobs are under a run.
+const RUNNING: u32 = 8;
+// How often each is done.
+const TIMES: u64 = 1_000;
+
+const SEEKS: u64 = 100;
+
+fn main(rt: HostRuntime) -> Result<()> {
+    let count = env::args(&rt)?.nth(1).context("how many jobs?")?;
+    let count: u32 = count.parse()?;
+    time_crowd(&rt, Crowd::Asking, "idle jobs that make the request", count)?;
+    time_crowd(&rt, Crowd::Others, "idle jobs that make another one", count)?;
+    time_crowd(
+        &rt,
+        Crowd::Periodic,
+        "jobs with a periodic expression",
+        count,
+    )?;
+    time_crowd(&rt, Crowd::Left, "jobs that were left", count)
+}
+
+fn time_crowd(rt: &HostRuntime, crowd: Crowd, what: &str, count: u32) -> Result<()> {
+    let mut text = crowd_text(rt.alloc(), crowd, count)?;
+    let before = read_queue(rt.alloc(), text.as_str())?;
+    write_running(&mut text, RUNNING)?;
+    let queue = read_queue(rt.alloc(), text.as_str())?;
+    time_schedd(rt, &before, &queue, what)
+}
+
+fn time_schedd(rt: &HostRuntime, before: &Queue, queue: &Queue, what: &str) -> Result<()> {
+    let mut schedd = back_again(rt.alloc(), before, queue)?;
+    let runs = schedd.runs().len();
+    let left = schedd.left().len();
+    println!(rt; "{what}: {runs} runs, {left} left")?;
+    time_due(rt, &schedd, queue)?;
+    time_ticks(rt, &mut schedd, queue)?;
+    time_seeks(rt, &mut schedd, queue)
+}
+
+fn time_due(rt: &HostRuntime, schedd: &Schedd, queue: &Queue) -> Result<()> {
+    let start = Instant::now(rt)?;
+    let due = due_often(schedd, queue, TIMES);
+    let micros = start.elapsed(rt)?.as_micros();
+    println!(rt; "{due} due")?;
+    eprintln!(rt; "due: {micros} microseconds for {TIMES}")?;
+    Ok(())
+}
+
+fn time_ticks(rt: &HostRuntime, schedd: &mut Schedd, queue: &Queue) -> Result<()> {
+    let start = Instant::now(rt)?;
+    let planned = tick_often(rt.alloc(), schedd, queue, TIMES)?;
+    let micros = start.elapsed(rt)?.as_micros();
+    println!(rt; "{planned} planned")?;
+    eprintln!(rt; "ticks: {micros} microseconds for {TIMES}")?;
+    Ok(())
+}
+
+fn time_seeks(rt: &HostRuntime, schedd: &mut Schedd, queue: &Queue) -> Result<()> {
+    let lone = read_queue(rt.alloc(), lone_text(rt.alloc())?.as_str())?;
+    let mut granted = 0u64;
+    let mut nanos = 0u128;
+    for _ in 0..SEEKS {
+        give_claim(rt.alloc(), schedd, &lone)?;
+        let start = Instant::now(rt)?;
+        let run = seek(rt.alloc(), schedd, queue)?;
+        nanos = nanos.saturating_add(start.elapsed(rt)?.as_nanos());
+        if let Some(number) = run {
+            granted = granted.saturating_add(1);
+            end_claim(rt.alloc(), schedd, queue, number)?;
+        }
+    }
+    println!(rt; "{granted} granted")?;
+    eprintln!(rt; "seeking: {nanos} nanoseconds for {SEEKS}")?;
+    Ok(())
+}

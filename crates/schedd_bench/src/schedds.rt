@@ -1,0 +1,136 @@
+use ad_value::Memory;
+use claim_id::{ClaimId, ClaimNo, JobId, RunNo, SlotId};
+use pool_mail::{Mail, Match, Settings};
+use queue_tx::Queue;
+use schedd_core::Schedd;
+use schedd_plan::JobPlan;
+use std::alloc::Global;
+
+// When the schedd came back.
+const BACK: u64 = 100_000;
+// How long it is from one tick to the next, so that each of 8 runs has its turn.
+const STEP: u64 = 38;
+
+const SETTINGS: Settings = Settings {
+    update_interval: 300,
+    match_timeout: 120,
+    claim_lease: 1_200,
+    job_lease: 1_200,
+    alive_interval: 300,
+    periodic_interval: 300,
+    retirement: 0,
+    vacate: 600,
+};
+
+/// A schedd that has come back after a crash: the jobs of the first queue are left, those under a
+/// claim that came since have their runs, whose leases were lengthened.
+pub(crate) fn back_again(alloc: Global, before: &Queue, queue: &Queue) -> Result<Schedd, Memory> {
+    let mut schedd = Schedd::new(alloc, before, SETTINGS)?;
+    let _nothing = schedd.reopen(alloc, queue, BACK)?;
+    for _ in schedd.left().len()..8 {
+        tick(alloc, &mut schedd, queue, BACK)?;
+    }
+    Ok(schedd)
+}
+
+// A tick whose plan is logged; whether there was one.
+fn tick(alloc: Global, schedd: &mut Schedd, queue: &Queue, reading: u64) -> Result<bool, Memory> {
+    let step = schedd.tick(alloc, queue, reading)?;
+    let planned = step.plan.is_some();
+    let _mails = schedd.logged(alloc, queue)?;
+    Ok(planned)
+}
+
+/// Asks so often whether a tick is due; how often one was.
+pub(crate) fn due_often(schedd: &Schedd, queue: &Queue, times: u64) -> u64 {
+    let mut due = 0u64;
+    for _ in 0..times {
+        if schedd.due(queue, BACK) {
+            due = due.saturating_add(1);
+        }
+    }
+    due
+}
+
+/// So many ticks; how many of them planned something.
+pub(crate) fn tick_often(
+    alloc: Global,
+    schedd: &mut Schedd,
+    queue: &Queue,
+    times: u64,
+) -> Result<u64, Memory> {
+    let mut planned = 0u64;
+    let mut reading = BACK;
+    for _ in 0..times {
+        reading = reading.saturating_add(STEP);
+        if tick(alloc, schedd, queue, reading)? {
+            planned = planned.saturating_add(1);
+        }
+    }
+    Ok(planned)
+}
+
+const CLAIM: ClaimId = ClaimId {
+    no: ClaimNo {
+        slot: SlotId {
+            machine: 0,
+            slot: 1,
+        },
+        boot: 4_294_967_296,
+        seq: 1_000,
+    },
+    secret: 255,
+};
+
+const LONE: JobId = JobId {
+    cluster: 3,
+    proc: 0,
+};
+
+/// A claim is given for the job of a queue of its own.
+pub(crate) fn give_claim(alloc: Global, schedd: &mut Schedd, lone: &Queue) -> Result<(), Memory> {
+    let matched = Mail::Matched(Match {
+        job: LONE,
+        claim: CLAIM,
+        by_priority: false,
+    });
+    let _ask = schedd.receive(alloc, lone, &matched, BACK)?;
+    let granted = Mail::Granted {
+        claim: CLAIM,
+        job: LONE,
+    };
+    let _nothing = schedd.receive(alloc, lone, &granted, BACK)?;
+    Ok(())
+}
+
+/// A tick in which the claim gets a job, or is given up; the number of its run.
+pub(crate) fn seek(
+    alloc: Global,
+    schedd: &mut Schedd,
+    queue: &Queue,
+) -> Result<Option<u64>, Memory> {
+    let step = schedd.tick(alloc, queue, BACK)?;
+    match step.plan {
+        Some(JobPlan::Grant { number, .. }) => Ok(Some(number)),
+        _ => Ok(None),
+    }
+}
+
+/// The claim's run is over, and so is the claim.
+pub(crate) fn end_claim(
+    alloc: Global,
+    schedd: &mut Schedd,
+    queue: &Queue,
+    number: u64,
+) -> Result<(), Memory> {
+    let gone = Mail::Gone {
+        run: RunNo {
+            claim: CLAIM.no,
+            number,
+        },
+        kept: false,
+    };
+    let _plan = schedd.receive(alloc, queue, &gone, BACK)?;
+    let _nothing = schedd.logged(alloc, queue)?;
+    Ok(())
+}
