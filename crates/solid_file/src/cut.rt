@@ -24,7 +24,8 @@ pub fn cut_behind<D: Store>(
 
     // The file.
     ensures cut { D.tells store.old ≡ true
-        → OnOk result (D.file store.new name.now ≡ option_map (take whole) (D.file store.old name.now)) }
+        → OnOk result (D.file store.new name.now
+        ≡ option_map (take whole) (D.file store.old name.now)) }
     ensures solid { D.tells store.old ≡ true → OnOk result (whole ≤ D.solid store.new name.now) }
     ensures refused { D.tells store.old ≡ true → OnErr result
         (SameFiles (D.file store.old) (D.file store.new) (D.solid store.old) (D.solid store.new)) }
@@ -39,8 +40,10 @@ pub fn cut_behind<D: Store>(
         ⊎ Leaves (D.file store.new) (D.solid store.new) name.now image) }
 
     // The name, what the store tells, and its faults.
-    ensures missing { Misses (D.tells store.old) (D.file store.old) (D.known store.old) name.now result }
-    ensures known { (other : List ℕ) → D.known store.old other ≡ true → D.known store.new other ≡ true }
+    ensures missing { Misses (D.tells store.old) (D.file store.old) (D.known store.old) name.now
+        result }
+    ensures known { (other : List ℕ) → D.known store.old other ≡ true
+        → D.known store.new other ≡ true }
     ensures told { D.tells store.new ≡ D.tells store.old }
     ensures cause { HasCause Failed (D.faults store.old) (D.faults store.new) result }
 {
