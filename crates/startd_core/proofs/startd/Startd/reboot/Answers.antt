@@ -8,5 +8,5 @@ pub invariant_of-self : goal.invariant_of-self
 invariant_of-self c =
     let old = c.self.inside in
     let v : StartdValue = startd_value old.machine old.settings old.offers old.slots.items old.ticked old.restless in
-    reboot_stands v c.in_ok-slots.field-0 c.into_vec.result.items c.in-Some.boot c.args.reading c.into_vec.ensures
+    reboot_stands v c.in_ok-slots.field-0 c.into_vec.result.items _ c.args.reading c.into_vec.ensures
     (c.in_ok-slots.ensures ∙ ap (λ (xs : List Slot). after_boots xs c.args.reading (no_ticks old.offers)) c.deref.ensures.value) c.self.invariant
