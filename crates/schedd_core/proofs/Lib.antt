@@ -20,3 +20,4 @@ pub mod OpenFits
 pub mod BackFits
 pub mod KeptPlans
 pub mod LeftJobs
+pub mod LooksKept

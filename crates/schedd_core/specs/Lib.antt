@@ -8,3 +8,4 @@ pub mod Logging
 pub mod JobStates
 pub mod PlanChanges
 pub mod ScheddParts
+pub mod Looks

@@ -5,6 +5,7 @@
 
 mod answer;
 pub mod laws;
+mod looks;
 mod reopened;
 mod schedd;
 mod search;

@@ -6,10 +6,12 @@ ghost use Rattle.schedd_table.specs.JobPlaces.{job_place};
 ghost use Rattle.schedd_core.specs.Rows.{stage_known, run_known, mail_row, seen_row, gone_row, ended_row, noted, asked_in, after_row, after_mail};
 ghost use Rattle.schedd_core.specs.Ticks.{comes_first, line_of_place, line_of_claims, line_of_claim, tick_line, is_act, is_due, IsSought, IsSoughtBy, IsTicked, left_claims, after_past, later, after_lengthen, after_grant, after_give_up, after_line};
 ghost use Rattle.schedd_core.specs.Checks.{has_periodic, is_unchecked, is_check_due, policy_plan, after_check};
+ghost use Rattle.schedd_core.specs.Looks.{IsOldest};
 ghost use Rattle.schedd_core.specs.Logging.{run_of_job, stops, is_marked, is_stopped, alives, activates, mails_of_plan, taken_off, after_plan, after_logged, IsReopened};
 ghost use Rattle.schedd_core.specs.Schedds.{nothing_done, plans, IsOpened, engages_job};
 
 use crate::answer::ScheddStep;
+use crate::looks::Looks;
 use crate::reopened::{first_run, found_claims, found_runs, next_after, number_after, still_left};
 use crate::search::{first_free, under_jobs};
 use ad_eval::holds;
@@ -17,7 +19,6 @@ use ad_names::job::{PERIODIC_HOLD, PERIODIC_RELEASE, PERIODIC_REMOVE};
 use ad_tree::Ad;
 use ad_value::{Copied, Memory};
 use claim_id::{ClaimId, ClaimNo, JobId, RunNo};
-use ordered_map::{NewEntry, OrderedMap};
 use pool_mail::{How, Mail, MailList, Settings, request_ad};
 use queue_tx::{Key, Queue, kind_of};
 use schedd_plan::{JobPlan, JobStatus, Reason, lease_until, status_of};
@@ -39,7 +40,7 @@ pub struct Schedd {
     left: Vec<JobId>,
     claims: Vec<KeptClaim>,
     runs: Vec<KeptRun>,
-    checked: OrderedMap<Key, u64>,
+    checked: Looks,
     waiting: Option<JobPlan>,
 }
 
@@ -102,7 +103,7 @@ impl Schedd {
             left: under_jobs(alloc, queue)?,
             claims: Vec::new(alloc),
             runs: Vec::new(alloc),
-            checked: OrderedMap::new(),
+            checked: Looks::new(),
             waiting: None,
         })
     }
@@ -652,6 +653,16 @@ impl Schedd {
         }
     }
 
+    /// The job at whose periodic expressions the last look is the longest ago, and its reading;
+    /// none where none was looked at since the pool opened or the schedd came back. So of the jobs
+    /// that were looked at it is the first whose look is due again. Computes in O(log jobs),
+    /// without memory.
+    pub fn oldest_look(&self) -> Option<(Key, u64)>
+        ensures { IsOldest self.now.checked result }
+    {
+        self.checked.oldest()
+    }
+
     // What the periodic expressions of a job want.
     fn policy_plan(
         &self,
@@ -697,8 +708,7 @@ impl Schedd {
         };
         let place = self.place(queue, job);
         let plan = self.policy_plan(alloc, place, job, ad, reading)?;
-        let entry = NewEntry::new(alloc, Key::Proc(job), reading)?;
-        self.checked.put(entry);
+        self.checked.put(alloc, Key::Proc(job), reading)?;
         match plan {
             Some(plan) => Ok(self.wait_for(alloc, plan)),
             None => Ok(ScheddStep::nothing(alloc)),
@@ -738,7 +748,7 @@ impl Schedd {
             JobPlan::PutIdle { job } | JobPlan::PutHeld { job, .. } => self.take_off(job),
             JobPlan::Complete { job, .. } | JobPlan::Remove { job } => {
                 self.take_off(job);
-                let _ = self.checked.remove(&Key::Proc(job));
+                self.checked.remove(&Key::Proc(job));
             }
             _ => {}
         }
@@ -847,7 +857,7 @@ impl Schedd {
         self.left = left;
         self.claims = claims;
         self.runs = runs;
-        self.checked = OrderedMap::new();
+        self.checked = Looks::new();
         self.waiting = None;
         Ok(ScheddStep::nothing(alloc))
     }
