@@ -1,5 +1,5 @@
 -- What submit files submit, file by file.
-use Rattle.std.proofs.Common.{◌≡◌, ◌∙◌, ℕ, String, Global, length, List, [], ◌∷◌, ◌++◌, Bool, true, Option, Some, None, Ok, inl, inr, refl, sym, ap, subst, arith, append_assoc}
+use Rattle.std.proofs.Common.{◌≡◌, ◌∙◌, ℕ, length, List, [], ◌∷◌, ◌++◌, Bool, true, Option, Some, None, Ok, inl, inr, refl, sym, ap, subst, arith, append_assoc}
 use Rattle.std.proofs.lemmas.List.{append-nil, map-append}
 use Rattle.std.proofs.lemmas.List.Elements.{filter_map-append}
 use Rattle.ad_tree.specs.Ad.{Attributes}
@@ -17,7 +17,8 @@ use Rattle.pool_input.specs.declared.status.Status.TheVariants as status
 use Rattle.pool_input.specs.Faults.{fault_status, UnlessOut, UnlessFault, IsStatus}
 use Rattle.pool_input.specs.Readings.{AreRead}
 use Rattle.pool_input.specs.Submissions.{AsksFor, IsSubmitRefused, Submits, submits_end, stops, and_submits, StopsAt, TakesSubmission, submit_step, submit_steps}
-use Rattle.pool_input.specs.Words.{texts}
+use Rattle.std.specs.Borrow.{Bor}
+use Rattle.run_words.specs.Words.{file_names}
 use Rattle.pool_input.proofs.Reading.{read_more}
 
 pub submits-more : (list : List Step) (s : List Attributes × ℕ) → submissions_in (list ++ submit_step s ∷ []) ≡ submissions_in list ++ s ∷ []
@@ -42,9 +43,9 @@ so_far_next allows tells told file here owner name names all opening old new sam
 pub so_far_all : (allows : ℕ → Type 0) (file : Contents) (owner : List ℕ) (all : List (List ℕ)) (opening : PoolValue) (now : CourseValue) → SoFar allows file owner all opening [] now → Submits allows file owner all opening (submissions_in now.list) None
 so_far_all allows file owner all opening now so_far = subst (λ (l : List (List Attributes × ℕ)). Submits allows file owner all opening l None) (append-nil (submissions_in now.list)) (so_far [] None submits_end)
 
-pub no_texts : (names : List (String Global)) → length names ≡ 0 → texts names ≡ []
-no_texts [] none = refl
-no_texts (n ∷ ns) none = absurd (omega arith)
+pub no_names : (names : List (Bor (List ℕ))) → length names ≡ 0 → file_names names ≡ []
+no_names [] none = refl
+no_names (n ∷ ns) none = absurd (omega arith)
 
 -- the next file is refused
 stops_so : (allows : ℕ → Type 0) (file : Contents) (owner name : List ℕ) (names all : List (List ℕ)) (opening : PoolValue) (now : CourseValue) (f : Fault) → SoFar allows file owner all opening (name ∷ names) now → IsSubmitRefused allows (file name) owner now.pool f → StopsAt allows file owner all opening (fault_status name f)
