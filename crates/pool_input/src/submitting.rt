@@ -56,10 +56,9 @@ pub(crate) fn submit_files<D: Store, C: Clock>(
         → SameFiles (D.file store.old) (D.file store.new) (D.solid store.old) (D.solid store.new) }
     ensures later { D.faults store.old ≤ D.faults store.new }
 {
-    let mut rest = names;
-    'names: while let Some((name, after)) = rest.split_first() {
+    'names: for name in names {
         match submit_file(alloc, store, clock, owner, *name, course) {
-            Ok(()) => rest = after,
+            Ok(()) => {}
             Err(fault) => return Err(fault_status(alloc, *name, fault)),
         }
     }
