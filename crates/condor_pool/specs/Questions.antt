@@ -1,5 +1,5 @@
 -- What a lone word of the command asks for.
-use Rattle.std.specs.Prelude.{◌≡◌, ◌⊎◌, ℕ, List, [], ◌∷◌, codes, map, String, string_bytes}
+use Rattle.std.specs.Prelude.{◌≡◌, ◌⊎◌, ℕ, List, [], ◌∷◌, codes}
 use Rattle.condor_pool.specs.declared.question.Question.{Question}
 use Rattle.condor_pool.specs.declared.question.Question.TheVariants.{Help, Version}
 
@@ -17,6 +17,3 @@ AsksAlone question words = ⊥
 
 abbrev pub IsNoQuestion : List (List ℕ) → Type 0
 IsNoQuestion words = (question : Question) → AsksAlone question words → ⊥
-
-abbrev pub texts : {A : Type 0} → List (String A) → List (List ℕ)
-texts words = map string_bytes words

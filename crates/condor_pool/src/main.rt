@@ -6,10 +6,10 @@ ghost use Rattle.std.specs.Prelude.{◌≡◌, All, IfOk, length};
 mod question;
 
 use crate::question::{Question, lone_question};
-use clap::{Arg, Command};
 use pool_master::{MACHINES, Ran, Status, run_pool};
 use pool_outer::{ChildSpawner, OpenGate, Spawner, StdSink, SystemClock};
 use pool_store::DiskStore;
+use run_words::command_line;
 use std::alloc::{AllocError, Global};
 use std::fs::File;
 use std::process::{ExitCode, Processes, id};
@@ -18,8 +18,6 @@ use std::rt::{Clock, Files};
 use std::sync::Wait;
 use std::thread::Threads;
 use std::{env, io};
-
-const VERSION: &str = "0.1.0";
 
 fn main(rt: HostRuntime) -> io::Result<ExitCode> {
     let alloc = rt.alloc();
@@ -84,32 +82,11 @@ fn words(rt: &HostRuntime) -> io::Result<Vec<String>> {
 }
 
 fn text_of(alloc: Global, question: Question) -> Result<String, AllocError> {
-    let mut command = command(alloc)?;
+    let mut command = command_line(alloc)?;
     match question {
         Question::Help => command.render_help(),
         Question::Version => command.render_version(),
     }
-}
-
-fn command(alloc: Global) -> Result<Command<'static>, AllocError> {
-    let run = run_command(alloc)?;
-    Command::new(alloc, "condor_pool")
-        .version(VERSION)
-        .about("An HTCondor pool in one process")
-        .override_usage("condor_pool run CONFIG [SUBMIT ...]")
-        .disable_help_subcommand(true)
-        .subcommand(run)
-}
-
-fn run_command(alloc: Global) -> Result<Command<'static>, AllocError> {
-    Command::new(alloc, "run")
-        .about("Runs a pool until nothing is left to do, and prints its user log")
-        .arg(file_argument(alloc, "CONFIG", "the pool's configuration"))?
-        .arg(file_argument(alloc, "SUBMIT", "the submit files of its jobs"))
-}
-
-fn file_argument(alloc: Global, name: &'static str, help: &'static str) -> Arg<'static> {
-    Arg::new(alloc, name).required(true).help(help)
 }
 
 // The key of the claims' secrets: random, or else of this moment and process.

@@ -1,5 +1,6 @@
 ghost use Rattle.std.specs.Prelude.{MatchOption};
-ghost use Rattle.condor_pool.specs.Questions.{Asks, AsksNothing, AsksAlone, IsNoQuestion, texts};
+ghost use Rattle.run_words.specs.Words.{texts};
+ghost use Rattle.condor_pool.specs.Questions.{Asks, AsksNothing, AsksAlone, IsNoQuestion};
 
 /// What a lone word may ask for.
 #[derive(Clone, Copy)]

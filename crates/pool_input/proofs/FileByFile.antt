@@ -1,5 +1,5 @@
 -- What submit files submit, file by file.
-use Rattle.std.proofs.Common.{◌≡◌, ◌∙◌, ℕ, String, Global, length, List, [], ◌∷◌, ◌++◌, Bool, true, Option, Some, None, Ok, inl, inr, refl, sym, ap, subst, arith, append_assoc}
+use Rattle.std.proofs.Common.{◌≡◌, ◌∙◌, ◌+◌, ◌<◌, ◌≤◌, ℕ, suc, length, drop, drop-cons, drop_of_length-le, get_or, List, [], ◌∷◌, ◌++◌, Bool, true, Option, Some, None, Ok, inl, inr, refl, sym, ap, subst, arith, append_assoc}
 use Rattle.std.proofs.lemmas.List.{append-nil, map-append}
 use Rattle.std.proofs.lemmas.List.Elements.{filter_map-append}
 use Rattle.ad_tree.specs.Ad.{Attributes}
@@ -17,7 +17,8 @@ use Rattle.pool_input.specs.declared.status.Status.TheVariants as status
 use Rattle.pool_input.specs.Faults.{fault_status, UnlessOut, UnlessFault, IsStatus}
 use Rattle.pool_input.specs.Readings.{AreRead}
 use Rattle.pool_input.specs.Submissions.{AsksFor, IsSubmitRefused, Submits, submits_end, stops, and_submits, StopsAt, TakesSubmission, submit_step, submit_steps}
-use Rattle.pool_input.specs.Words.{texts}
+use Rattle.std.specs.Borrow.{Bor}
+use Rattle.run_words.specs.Words.{file_names}
 use Rattle.pool_input.proofs.Reading.{read_more}
 
 pub submits-more : (list : List Step) (s : List Attributes × ℕ) → submissions_in (list ++ submit_step s ∷ []) ≡ submissions_in list ++ s ∷ []
@@ -42,9 +43,14 @@ so_far_next allows tells told file here owner name names all opening old new sam
 pub so_far_all : (allows : ℕ → Type 0) (file : Contents) (owner : List ℕ) (all : List (List ℕ)) (opening : PoolValue) (now : CourseValue) → SoFar allows file owner all opening [] now → Submits allows file owner all opening (submissions_in now.list) None
 so_far_all allows file owner all opening now so_far = subst (λ (l : List (List Attributes × ℕ)). Submits allows file owner all opening l None) (append-nil (submissions_in now.list)) (so_far [] None submits_end)
 
-pub no_texts : (names : List (String Global)) → length names ≡ 0 → texts names ≡ []
-no_texts [] none = refl
-no_texts (n ∷ ns) none = absurd (omega arith)
+-- the name at a place is the first of those from there on
+first_at : (names : List (Bor (List ℕ))) (i : ℕ) (d : Bor (List ℕ)) → i < length names → file_names (drop i names) ≡ (get_or names i d).now ∷ file_names (drop (i + 1) names)
+first_at names i d lt =
+    let next : suc i ≡ i + 1 = omega arith in
+    ap file_names (drop-cons names i d lt) ∙ ap (λ k. (get_or names i d).now ∷ file_names (drop k names)) next
+
+pub no_names : (names : List (Bor (List ℕ))) (i : ℕ) → length names ≤ i → file_names (drop i names) ≡ []
+no_names names i past = ap file_names (drop_of_length-le names past)
 
 -- the next file is refused
 stops_so : (allows : ℕ → Type 0) (file : Contents) (owner name : List ℕ) (names all : List (List ℕ)) (opening : PoolValue) (now : CourseValue) (f : Fault) → SoFar allows file owner all opening (name ∷ names) now → IsSubmitRefused allows (file name) owner now.pool f → StopsAt allows file owner all opening (fault_status name f)
@@ -67,6 +73,21 @@ disk_of name (fault.Limit which) s (inl is) disk = let clash : status.Limit whic
 disk_of name fault.Disk s (inl is) disk = refl
 disk_of name fault.Memory s (inl is) disk = let clash : status.Memory ≡ status.DiskFault = sym is ∙ disk in cc
 disk_of name f s (inr is) disk = let clash : status.Memory ≡ status.DiskFault = sym is ∙ disk in cc
+
+-- ---- the same, by the place of a name in the list
+
+pub so_far_at : (allows : ℕ → Type 0) (tells : Bool) (told : tells ≡ true) (file here : Contents) (owner : List ℕ) (names : List (Bor (List ℕ))) (i : ℕ) (d : Bor (List ℕ)) (opening : PoolValue) (old new : CourseValue) → i < length names → ((n : List ℕ) → here n ≡ file n) → TakesSubmission allows tells (here (get_or names i d).now) owner old new → SoFar allows file owner (file_names names) opening (file_names (drop i names)) old → SoFar allows file owner (file_names names) opening (file_names (drop (i + 1) names)) new
+so_far_at allows tells told file here owner names i d opening old new lt same takes so_far =
+    let name = (get_or names i d).now in
+    so_far_next allows tells told file (here name) owner name (file_names (drop (i + 1) names)) (file_names names) opening old new (same name) takes
+    (subst (λ (l : List (List ℕ)). SoFar allows file owner (file_names names) opening l old) (first_at names i d lt) so_far)
+
+pub stops_at : (allows : ℕ → Type 0) (file here : Contents) (owner : List ℕ) (names : List (Bor (List ℕ))) (i : ℕ) (d : Bor (List ℕ)) (opening : PoolValue) (now : CourseValue) (f : Fault) (s : Status) → i < length names → ((n : List ℕ) → here n ≡ file n) → SoFar allows file owner (file_names names) opening (file_names (drop i names)) now → UnlessOut (IsSubmitRefused allows (here (get_or names i d).now) owner now.pool) f → IsStatus (fault_status (get_or names i d).now f) s → UnlessFault (StopsAt allows file owner (file_names names) opening) s
+stops_at allows file here owner names i d opening now f s lt same so_far refused is =
+    let name = (get_or names i d).now in
+    so_far_stops allows file owner name (file_names (drop (i + 1) names)) (file_names names) opening now f s
+    (subst (λ (l : List (List ℕ)). SoFar allows file owner (file_names names) opening l now) (first_at names i d lt) so_far)
+    (subst (λ (o : Option (List ℕ)). UnlessOut (IsSubmitRefused allows o owner now.pool) f) (same name) refused) is
 
 -- ---- the pool and its history, after one more submission
 

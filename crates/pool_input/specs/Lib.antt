@@ -1,5 +1,4 @@
 pub mod Status
-pub mod Words
 pub mod ReadErrors
 pub mod Faults
 pub mod Readings

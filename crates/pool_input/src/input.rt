@@ -11,16 +11,16 @@ ghost use Rattle.pool_input.specs.Input.{HasSubmitted, IsConfigFile, IsConfigRef
 ghost use Rattle.pool_input.specs.declared.status.Status.{Status};
 ghost use Rattle.pool_input.specs.Status.{stage_of, IsAtFiles};
 ghost use Rattle.pool_input.specs.Submissions.{HasNoText, IsTextOf, StopsAt, Submits};
-ghost use Rattle.pool_input.specs.Words.{texts};
+ghost use Rattle.run_words.specs.Words.{file_names};
 
 use crate::fault::{Fault, config_fault, fault_status};
 use crate::files::read_file;
 use crate::status::{Kind, Status};
 use crate::submitting::submit_files;
-use crate::words::Named;
 use ad_value::{Copied, Memory, Text};
 use pool_config::{Config, ConfiguredSlot, configured_slots, read};
 use pool_outer::{Clock, Store};
+use run_words::Named;
 use std::alloc::Global;
 use thin_pool::{Course, PoolSlot, PoolSlotList};
 
@@ -31,19 +31,19 @@ pub fn load<D: Store, C: Clock>(
     alloc: Global,
     store: &mut D,
     clock: &C,
-    named: Named<'_>,
+    named: &Named<'_>,
 ) -> Result<Course, Status>
     // What is answered of the files.
     ensures ok { D.tells store.old ≡ true → IfOk result (λ c. IsOfFiles (C.allows clock.now)
-        (D.file store.old) named.entry.config.now (texts named.entry.submits.now)
+        (D.file store.old) named.now.config.now (file_names named.now.submits.items)
         c.opening c.list) }
     ensures submitted { IfOk result (HasSubmitted (C.allows clock.now)) }
     ensures refused { D.tells store.old ≡ true
         → IfErr result (UnlessFault (IsRefusedOf (C.allows clock.now)
-        (D.file store.old) named.entry.config.now (texts named.entry.submits.now))) }
+        (D.file store.old) named.now.config.now (file_names named.now.submits.items))) }
     ensures refused_comes { D.tells store.old ≡ true → (s : Status)
-        → IsRefusedByFiles (D.file store.old) named.entry.config.now
-        (texts named.entry.submits.now) s → IsErrAnd result (IsStatusUnlessFault s) }
+        → IsRefusedByFiles (D.file store.old) named.now.config.now
+        (file_names named.now.submits.items) s → IsErrAnd result (IsStatusUnlessFault s) }
     ensures early { IfErr result (λ s. IsAtFiles (stage_of s)) }
     ensures disk_fault { IfErr result
         (λ s. s ≡ Status.DiskFault → Rose (D.faults store.old) (D.faults store.new)) }
@@ -53,7 +53,7 @@ pub fn load<D: Store, C: Clock>(
         → SameFiles (D.file store.old) (D.file store.new) (D.solid store.old) (D.solid store.new) }
 {
     match load_config(alloc, store, named.config) {
-        Ok(config) => load_submits(alloc, store, clock, &config, named.submits),
+        Ok(config) => load_submits(alloc, store, clock, &config, named.submits.as_slice()),
         Err(fault) => Err(fault_status(alloc, named.config, fault)),
     }
 }
@@ -64,7 +64,7 @@ fn load_submits<D: Store, C: Clock>(
     store: &mut D,
     clock: &C,
     config: &Config,
-    names: &[String],
+    names: &[&str],
 ) -> Result<Course, Status>
     requires within { IsWithinLimits (configuration_of config.now) }
     requires each { HaveSlots (configuration_of config.now).machines }
@@ -73,12 +73,12 @@ fn load_submits<D: Store, C: Clock>(
     ensures opening { IfOk result
         (λ c. c.opening ≡ opening_pool (pool_slots (configuration_of config.now))) }
     ensures ok { D.tells store.old ≡ true → IfOk result (λ c. Submits (C.allows clock.now)
-        (D.file store.old) config.now.owner (texts names.now) c.opening
+        (D.file store.old) config.now.owner (file_names names.now) c.opening
         (submissions_in c.list) None) }
     ensures submitted { IfOk result (HasSubmitted (C.allows clock.now)) }
     ensures refused { D.tells store.old ≡ true
         → IfErr result (UnlessFault (StopsAt (C.allows clock.now)
-        (D.file store.old) config.now.owner (texts names.now)
+        (D.file store.old) config.now.owner (file_names names.now)
         (opening_pool (pool_slots (configuration_of config.now))))) }
     ensures early { IfErr result (λ s. IsAtFiles (stage_of s)) }
     ensures disk_fault { IfErr result

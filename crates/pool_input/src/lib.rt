@@ -1,5 +1,5 @@
-//! What a run reads before its pool begins: the command's words, the configuration and the submit
-//! files; and the statuses that a run ends with.
+//! What a run reads before its pool begins: the configuration and the submit files that its words
+//! name; and the statuses that a run ends with.
 #![tactic(auto)]
 
 mod fault;
@@ -7,9 +7,7 @@ mod files;
 mod input;
 mod status;
 mod submitting;
-mod words;
 
 pub use files::MOST_BYTES;
 pub use input::load;
 pub use status::{Kind, Status};
-pub use words::{Named, files_in};

@@ -10,7 +10,7 @@ ghost use Rattle.pool_input.specs.Faults.{IsFileFault, UnlessFault, UnlessOut};
 ghost use Rattle.pool_input.specs.Readings.{AreRead};
 ghost use Rattle.pool_input.specs.Status.{stage_of, IsAtFiles};
 ghost use Rattle.pool_input.specs.Submissions.{IsSubmitRefused, StopsAt, Submits, TakesSubmission, submit_step, submit_steps};
-ghost use Rattle.pool_input.specs.Words.{texts};
+ghost use Rattle.run_words.specs.Words.{file_names};
 
 use crate::fault::{Fault, fault_status, submit_fault};
 use crate::input::read_text;
@@ -27,7 +27,7 @@ pub(crate) fn submit_files<D: Store, C: Clock>(
     store: &mut D,
     clock: &C,
     owner: &str,
-    names: &[String],
+    names: &[&str],
     course: &mut Course,
 ) -> Result<(), Status>
     requires rests { IsResting course.old.pool }
@@ -35,11 +35,11 @@ pub(crate) fn submit_files<D: Store, C: Clock>(
 
     // What is answered of the files.
     ensures ok { D.tells store.old ≡ true → OnOk result (Submits (C.allows clock.now)
-        (D.file store.old) owner.now (texts names.now) course.old.pool
+        (D.file store.old) owner.now (file_names names.now) course.old.pool
         (submissions_in course.new.list) None) }
     ensures refused { D.tells store.old ≡ true
         → IfErr result (UnlessFault (StopsAt (C.allows clock.now)
-        (D.file store.old) owner.now (texts names.now) course.old.pool)) }
+        (D.file store.old) owner.now (file_names names.now) course.old.pool)) }
     ensures early { IfErr result (λ s. IsAtFiles (stage_of s)) }
     ensures disk_fault { IfErr result
         (λ s. s ≡ Status.DiskFault → Rose (D.faults store.old) (D.faults store.new)) }
@@ -56,12 +56,10 @@ pub(crate) fn submit_files<D: Store, C: Clock>(
         → SameFiles (D.file store.old) (D.file store.new) (D.solid store.old) (D.solid store.new) }
     ensures later { D.faults store.old ≤ D.faults store.new }
 {
-    let mut rest = names;
-    'names: while let Some((name, after)) = rest.split_first() {
-        let name = name.as_str();
-        match submit_file(alloc, store, clock, owner, name, course) {
-            Ok(()) => rest = after,
-            Err(fault) => return Err(fault_status(alloc, name, fault)),
+    'names: for name in names {
+        match submit_file(alloc, store, clock, owner, *name, course) {
+            Ok(()) => {}
+            Err(fault) => return Err(fault_status(alloc, *name, fault)),
         }
     }
     Ok(())

@@ -7,7 +7,7 @@ ghost use Rattle.pool_input.specs.Input.{IsInputRefused, IsRefusedInput, IsRefus
 ghost use Rattle.thin_pool.specs.Histories.{submissions_in};
 ghost use Rattle.pool_input.specs.Readings.{AreRead, AreReadings};
 ghost use Rattle.pool_input.specs.Status.{stage_of, IsBeforePool, IsRefusal, IsAfterFiles, IsToday};
-ghost use Rattle.pool_input.specs.Words.{IsNoRun, texts};
+ghost use Rattle.run_words.specs.Words.{IsNoRun, file_names, texts};
 ghost use Rattle.pool_master.specs.Runs.{IsLaunched, EndAsSeen, child_runs, not_started_count, run_launches, runs_in, runs_on};
 ghost use Rattle.pool_master.specs.Seen.{spawner_seen, sink_seen};
 ghost use Rattle.pool_master.specs.Follows.{AtEach, IsChildCount, AreUntouched};
@@ -16,8 +16,9 @@ ghost use Rattle.pool_master.specs.WholeRun.{IsAllWritten, IsClosed, IsReplay, I
 use crate::output::write_all;
 use crate::play::play;
 use crate::user_log::log_text;
-use pool_input::{Named, Status, files_in, load};
+use pool_input::{Status, load};
 use pool_outer::{Clock, Gate, Sink, Spawner, Store};
+use run_words::{Named, WordsError, read};
 use std::alloc::Global;
 use std::sync::Wait;
 use std::thread::Threads;
@@ -176,9 +177,10 @@ fn run<R: Wait, D: Store, C: Clock, P: Spawner, K: Sink>(
     ensures store { D.tells store.old ≡ true
         → SameFiles (D.file store.old) (D.file store.new) (D.solid store.old) (D.solid store.new) }
 {
-    match files_in(words) {
-        Some(named) => run_files(rt, alloc, named, store, clock, spawners, out),
-        None => (Status::Usage, no_history(alloc)),
+    match read(alloc, words) {
+        Ok(named) => run_files(rt, alloc, &named, store, clock, spawners, out),
+        Err(WordsError::Usage) => (Status::Usage, no_history(alloc)),
+        Err(WordsError::Memory) => (Status::Memory, no_history(alloc)),
     }
 }
 
@@ -186,7 +188,7 @@ fn run<R: Wait, D: Store, C: Clock, P: Spawner, K: Sink>(
 fn run_files<R: Wait, D: Store, C: Clock, P: Spawner, K: Sink>(
     rt: &R,
     alloc: Global,
-    named: Named<'_>,
+    named: &Named<'_>,
     store: &mut D,
     clock: &C,
     spawners: &mut [P],
@@ -201,14 +203,14 @@ fn run_files<R: Wait, D: Store, C: Clock, P: Spawner, K: Sink>(
 
     // The statuses of the files, and the files themselves.
     ensures files { D.tells store.old ≡ true
-        → OfFilesFrom (C.allows clock.now) (D.file store.old) named.entry.config.now
-        (texts named.entry.submits.now) result.1.opening result.1.list }
+        → OfFilesFrom (C.allows clock.now) (D.file store.old) named.now.config.now
+        (file_names named.now.submits.items) result.1.opening result.1.list }
     ensures refused { D.tells store.old ≡ true → IsRefusal result.0
-        → IsRefusedOf (C.allows clock.now) (D.file store.old) named.entry.config.now
-        (texts named.entry.submits.now) result.0 }
+        → IsRefusedOf (C.allows clock.now) (D.file store.old) named.now.config.now
+        (file_names named.now.submits.items) result.0 }
     ensures refused_comes { D.tells store.old ≡ true → (s : Status)
-        → IsRefusedByFiles (D.file store.old) named.entry.config.now
-        (texts named.entry.submits.now) s → IsStatusUnlessFault s result.0 }
+        → IsRefusedByFiles (D.file store.old) named.now.config.now
+        (file_names named.now.submits.items) s → IsStatusUnlessFault s result.0 }
     ensures disk_fault { result.0 ≡ Status.DiskFault
         → Rose (D.faults store.old) (D.faults store.new) }
     ensures early { IsBeforePool (stage_of result.0) → HasNothing result.1 }

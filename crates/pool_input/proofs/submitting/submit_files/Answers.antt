@@ -1,13 +1,11 @@
-use Rattle.std.proofs.Common.{◌≡◌, ◌∙◌, ◌∷◌, [], List, Option, string_bytes, ℕ, sym, ap, subst, rules, arith}
-use Rattle.pool_input.specs.Faults.{UnlessOut}
-use Rattle.pool_input.specs.Submissions.{IsSubmitRefused}
-use Rattle.pool_input.specs.Words.{texts}
-use Rattle.pool_input.proofs.FileByFile.{SoFar, so_far_first, so_far_next, so_far_all, so_far_stops, no_texts, disk_of, rests_next, slots_next, steps_next, read_next, read_none}
+use Rattle.std.proofs.Common.{◌∙◌, List, ℕ, subst, rules, arith}
+use Rattle.run_words.specs.Words.{file_names}
+use Rattle.pool_input.proofs.FileByFile.{SoFar, so_far_first, so_far_at, so_far_all, stops_at, no_names, disk_of, rests_next, slots_next, steps_next, read_next, read_none}
 use Rattle.pool_input.proofs.submitting.submit_files.Goals as goal
 
 pub names-init : goal.names-init
 names-init g c = record {
-  so_far = λ told. so_far_first (g.C.Clock.allows c.args.clock.now) (g.D.Store.file c.args.store.now) c.args.owner.now (texts c.args.names.now) c.args.course.now c.requires.empty;
+  so_far = λ told. so_far_first (g.C.Clock.allows c.args.clock.now) (g.D.Store.file c.args.store.now) c.args.owner.now (file_names c.args.names.now) c.args.course.now c.requires.empty;
   rests = c.requires.rests;
   slots = search rules;
   opening = search rules;
@@ -22,12 +20,9 @@ pub names-preserved : goal.names-preserved
 names-preserved g c =
     let inv = c.names.invariant in
     let now = c.in-Ok.ensures in
-    let first : texts c.names.rest.now ≡ string_bytes c.in-Some.name.now ∷ texts c.in-Some.after.now = search rules in
-    let name : c.as_str-name.result.now ≡ string_bytes c.in-Some.name.now = c.as_str-name.ensures.value in
     record {
-      so_far = λ told. so_far_next _ (g.D.Store.tells c.names.store) (inv.told ∙ told) (g.D.Store.file c.args.store.now) (g.D.Store.file c.names.store c.as_str-name.result.now) _ (string_bytes c.in-Some.name.now) (texts c.in-Some.after.now) (texts c.args.names.now) c.args.course.now.pool c.names.course c.submit_file.new.course
-          ((inv.same told c.as_str-name.result.now).0 ∙ ap (g.D.Store.file c.args.store.now) name) now.taken
-          (subst (λ (l : List (List ℕ)). SoFar (g.C.Clock.allows c.args.clock.now) (g.D.Store.file c.args.store.now) c.args.owner.now (texts c.args.names.now) c.args.course.now.pool l c.names.course) first (inv.so_far told));
+      so_far = λ told. so_far_at (g.C.Clock.allows c.args.clock.now) (g.D.Store.tells c.names.store) (inv.told ∙ told) (g.D.Store.file c.args.store.now) (g.D.Store.file c.names.store) c.args.owner.now c.args.names.now c.names.name-index _ c.args.course.now.pool c.names.course c.submit_file.new.course
+          (omega arith) (λ n. (inv.same told n).0) now.taken (inv.so_far told);
       rests = rests_next _ _ _ _ _ _ now.taken inv.rests;
       slots = slots_next _ _ _ _ _ _ now.taken ∙ inv.slots;
       opening = now.taken.opening ∙ inv.opening;
@@ -41,19 +36,13 @@ names-preserved g c =
 pub returns-in-Err-clause-refused : goal.returns-in-Err-clause-refused
 returns-in-Err-clause-refused g c = λ told.
     let inv = c.names.invariant in
-    let first : texts c.names.rest.now ≡ string_bytes c.in-Some.name.now ∷ texts c.in-Some.after.now = search rules in
-    let name : c.as_str-name.result.now ≡ string_bytes c.in-Some.name.now = c.as_str-name.ensures.value in
-    let here : g.D.Store.file c.names.store c.as_str-name.result.now ≡ g.D.Store.file c.args.store.now c.as_str-name.result.now = (inv.same told c.as_str-name.result.now).0 in
-    let refused : UnlessOut (IsSubmitRefused (g.C.Clock.allows c.args.clock.now) (g.D.Store.file c.args.store.now c.as_str-name.result.now) c.args.owner.now c.names.course.pool) c.in-Err.fault
-    = subst (λ (f : Option (List ℕ)). UnlessOut (IsSubmitRefused (g.C.Clock.allows c.args.clock.now) f c.args.owner.now c.names.course.pool) c.in-Err.fault) here (c.in-Err.ensures.refused (inv.told ∙ told)) in
-    so_far_stops _ (g.D.Store.file c.args.store.now) c.args.owner.now c.as_str-name.result.now (texts c.in-Some.after.now) (texts c.args.names.now) c.args.course.now.pool c.names.course c.in-Err.fault c.fault_status.result
-    (subst (λ (l : List (List ℕ)). SoFar (g.C.Clock.allows c.args.clock.now) (g.D.Store.file c.args.store.now) c.args.owner.now (texts c.args.names.now) c.args.course.now.pool l c.names.course) (first ∙ ap (λ (n : List ℕ). n ∷ texts c.in-Some.after.now) (sym name)) (inv.so_far told))
-    refused c.fault_status.ensures.status
+    stops_at (g.C.Clock.allows c.args.clock.now) (g.D.Store.file c.args.store.now) (g.D.Store.file c.names.store) c.args.owner.now c.args.names.now c.names.name-index _ c.args.course.now.pool c.names.course c.in-Err.fault c.fault_status.result
+    (omega arith) (λ n. (inv.same told n).0) (inv.so_far told) (c.in-Err.ensures.refused (inv.told ∙ told)) c.fault_status.ensures.status
 
 pub returns-in-Err-clause-disk_fault : goal.returns-in-Err-clause-disk_fault
-returns-in-Err-clause-disk_fault g c = λ disk. let rose = c.in-Err.ensures.disk_fault (disk_of c.as_str-name.result.now c.in-Err.fault c.fault_status.result c.fault_status.ensures.status disk) in let before = c.names.invariant.later in omega arith
+returns-in-Err-clause-disk_fault g c = λ disk. let rose = c.in-Err.ensures.disk_fault (disk_of _ c.in-Err.fault c.fault_status.result c.fault_status.ensures.status disk) in let before = c.names.invariant.later in omega arith
 
 pub returns-clause-ok : goal.returns-clause-ok
 returns-clause-ok g c = λ told.
-    let none : texts c.names.rest.now ≡ [] = no_texts c.names.rest.now (search rules) in
-    so_far_all (g.C.Clock.allows c.args.clock.now) (g.D.Store.file c.args.store.now) c.args.owner.now (texts c.args.names.now) c.args.course.now.pool c.names.course (subst (λ (l : List (List ℕ)). SoFar (g.C.Clock.allows c.args.clock.now) (g.D.Store.file c.args.store.now) c.args.owner.now (texts c.args.names.now) c.args.course.now.pool l c.names.course) none (c.names.invariant.so_far told))
+    let none = no_names c.args.names.now c.names.name-index (omega arith) in
+    so_far_all (g.C.Clock.allows c.args.clock.now) (g.D.Store.file c.args.store.now) c.args.owner.now (file_names c.args.names.now) c.args.course.now.pool c.names.course (subst (λ (l : List (List ℕ)). SoFar (g.C.Clock.allows c.args.clock.now) (g.D.Store.file c.args.store.now) c.args.owner.now (file_names c.args.names.now) c.args.course.now.pool l c.names.course) none (c.names.invariant.so_far told))

@@ -1,7 +1,7 @@
 use Rattle.std.proofs.Common.{◌≡◌, arith}
 use Rattle.pool_input.specs.Input.{IsRefusedOf}
 use Rattle.pool_input.specs.Status.{stage_of}
-use Rattle.pool_input.specs.Words.{texts}
+use Rattle.run_words.specs.Words.{file_names}
 use Rattle.pool_master.proofs.Spawners.{all_at}
 use Rattle.pool_master.proofs.PoolRun.{nothing_runs, files_no_close, of_files, refusal_of, late_no_refusal}
 use Rattle.pool_master.proofs.run.run_files.Goals as goal
@@ -12,10 +12,10 @@ returns-in-Err-clause-runs g c =
     (λ m s is. let zero = all_at (λ x. g.P.Spawner.count x ≡ 0) c.args.spawners.now m s c.requires.idle is in record { none = zero; all = g.met.P.Spawner.counted s; spared = λ told k. (g.met.P.Spawner.unborn s k told (omega arith)).1 })
 
 pub returns-in-Err-clause-refused : goal.returns-in-Err-clause-refused
-returns-in-Err-clause-refused g c = λ told refuses. refusal_of (IsRefusedOf (g.C.Clock.allows c.args.clock.now) (g.D.Store.file c.args.store.now) c.args.named.config.now (texts c.args.named.submits.now)) c.in-Err.status refuses (c.in-Err.ensures.refused told)
+returns-in-Err-clause-refused g c = λ told refuses. refusal_of (IsRefusedOf (g.C.Clock.allows c.args.clock.now) (g.D.Store.file c.args.store.now) c.args.named.now.config.now (file_names c.args.named.now.submits.items)) c.in-Err.status refuses (c.in-Err.ensures.refused told)
 
 pub returns-in-Ok-clause-files : goal.returns-in-Ok-clause-files
-returns-in-Ok-clause-files g c = λ told. of_files (g.C.Clock.allows c.args.clock.now) (g.D.Store.file c.args.store.now) c.args.named.config.now (texts c.args.named.submits.now) c.in-Ok.course.opening c.run_course.result.1.opening c.in-Ok.course.list c.run_course.result.1.list c.run_course.ensures.opening c.run_course.ensures.submits (c.in-Ok.ensures.ok told)
+returns-in-Ok-clause-files g c = λ told. of_files (g.C.Clock.allows c.args.clock.now) (g.D.Store.file c.args.store.now) c.args.named.now.config.now (file_names c.args.named.now.submits.items) c.in-Ok.course.opening c.run_course.result.1.opening c.in-Ok.course.list c.run_course.result.1.list c.run_course.ensures.opening c.run_course.ensures.submits (c.in-Ok.ensures.ok told)
 
 pub returns-in-Ok-clause-refused : goal.returns-in-Ok-clause-refused
 returns-in-Ok-clause-refused g c = λ told refuses. absurd (late_no_refusal c.run_course.result.0 c.run_course.ensures.late refuses)
