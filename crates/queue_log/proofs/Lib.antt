@@ -1,0 +1,11 @@
+pub mod Readings
+pub mod Writings
+pub mod Sound
+pub mod Settled
+pub mod NewLog
+pub mod Reattached
+pub mod Pieces
+pub mod Results
+pub mod Refusals
+pub mod Beyond
+pub mod Opened

@@ -1,0 +1,86 @@
+use Rattle.std.proofs.Common.{◌≡◌, ◌∙◌, ◌++◌, ◌∷◌, [], List, ℕ, Option, Some, None, Ok, OnOk, true, ap, sym, subst}
+use Rattle.pool_outer.specs.Files.{bytes_in, Leaves}
+use Rattle.queue_tx.specs.Operations.{Operation}
+use Rattle.queue_tx.specs.Queues.{KeyedAds, queue_after, with_changes}
+use Rattle.queue_log.specs.declared.log.Halt.{Halt}
+use Rattle.queue_log.specs.Logs.{IsWhole, KeepsLog, StandsForLog}
+use Rattle.queue_log.specs.Stands.{Stands}
+use Rattle.queue_log.proofs.Settled.{log_image}
+use Rattle.queue_log.proofs.log.Log.append.Goals as goal
+
+kept_whole : (halt : Option Halt) (list : List (List Operation)) (queue : KeyedAds) (bytes : List ℕ) (solid : ℕ) → halt ≡ None → KeepsLog halt list queue bytes solid → IsWhole list queue bytes solid
+kept_whole None list queue bytes solid e k = k
+kept_whole (Some h) list queue bytes solid e k = absurd (cc e)
+
+pub invariant_of-self-in-Err : goal.invariant_of-self-in-Err
+invariant_of-self-in-Err g c =
+    let m = g.D.Store in
+    let me = c.self.inside in
+    let n = me.name in
+    let n' = c.as_str.result.now in
+    let named : n' ≡ n = c.as_str.ensures in
+    let old = me.store in
+    let new = c.write_tx.new.store in
+    let after = with_changes me.logged.queue c.in_ok-ready.ready.changes in
+    let done : queue_after me.logged.queue c.args.tx ≡ Ok after = c.in_ok-ready.ensures.ready.done in
+    rw (← named, c.prepare.ensures.list, c.prepare.ensures.queue) (
+      c.write_tx.ensures.known n' (subst (λ z. m.known old z ≡ true) (sym named) c.self.invariant.0),
+      λ tells.
+          let tells' : m.tells old ≡ true = sym c.write_tx.ensures.told ∙ tells in
+          let w : IsWhole me.logged.list me.logged.queue (bytes_in (m.file old n')) (m.solid old n') =
+          subst (λ z. IsWhole me.logged.list me.logged.queue (bytes_in (m.file old z)) (m.solid old z)) (sym named)
+          (kept_whole me.halt me.logged.list me.logged.queue (bytes_in (m.file old n)) (m.solid old n) c.in_default.is (c.self.invariant.1 tells')) in
+          c.write_tx.ensures.torn tells' me.logged.list me.logged.queue after w done,
+    )
+
+pub returns-in-Err-clause-any_moment : goal.returns-in-Err-clause-any_moment
+returns-in-Err-clause-any_moment g c none tells =
+    let m = g.D.Store in
+    let me = c.self.inside in
+    let n = me.name in
+    let n' = c.as_str.result.now in
+    let named : n' ≡ n = c.as_str.ensures in
+    let old = me.store in
+    let after = with_changes me.logged.queue c.in_ok-ready.ready.changes in
+    let done : queue_after me.logged.queue c.args.tx ≡ Ok after = c.in_ok-ready.ensures.ready.done in
+    let tells' : m.tells old ≡ true = ap (λ v. m.tells v.store) c.self.view_is ∙ tells in
+    let w : IsWhole me.logged.list me.logged.queue (bytes_in (m.file old n')) (m.solid old n') =
+    subst (λ z. IsWhole me.logged.list me.logged.queue (bytes_in (m.file old z)) (m.solid old z)) (sym named)
+    (kept_whole me.halt me.logged.list me.logged.queue (bytes_in (m.file old n)) (m.solid old n) c.in_default.is (c.self.invariant.1 tells')) in
+    rw (← c.self.view_is, ← named) (c.write_tx.ensures.any_moment tells' me.logged.list me.logged.queue after w done)
+
+pub returns-clause-any_moment : goal.returns-clause-any_moment
+returns-clause-any_moment g c none tells =
+    let m = g.D.Store in
+    let me = c.self.inside in
+    let n = me.name in
+    let n' = c.as_str.result.now in
+    let named : n' ≡ n = c.as_str.ensures in
+    let old = me.store in
+    let after = with_changes me.logged.queue c.in_ok-ready.ready.changes in
+    let done : queue_after me.logged.queue c.args.tx ≡ Ok after = c.in_ok-ready.ensures.ready.done in
+    let tells' : m.tells old ≡ true = ap (λ v. m.tells v.store) c.self.view_is ∙ tells in
+    let w : IsWhole me.logged.list me.logged.queue (bytes_in (m.file old n')) (m.solid old n') =
+    subst (λ z. IsWhole me.logged.list me.logged.queue (bytes_in (m.file old z)) (m.solid old z)) (sym named)
+    (kept_whole me.halt me.logged.list me.logged.queue (bytes_in (m.file old n)) (m.solid old n) c.in_default.is (c.self.invariant.1 tells')) in
+    rw (← c.self.view_is, ← named) (c.write_tx.ensures.any_moment tells' me.logged.list me.logged.queue after w done)
+
+pub returns-clause-durable : goal.returns-clause-durable
+returns-clause-durable g c tells image left =
+    let m = g.D.Store in
+    let me = c.self.inside in
+    let n = me.name in
+    let n' = c.as_str.result.now in
+    let named : n' ≡ n = c.as_str.ensures in
+    let old = me.store in
+    let new = c.write_tx.new.store in
+    let tx = c.args.tx in
+    let after = with_changes me.logged.queue c.in_ok-ready.ready.changes in
+    let done : queue_after me.logged.queue tx ≡ Ok after = c.in_ok-ready.ensures.ready.done in
+    let tells' : m.tells old ≡ true = ap (λ v. m.tells v.store) c.self.view_is ∙ tells in
+    let w : IsWhole me.logged.list me.logged.queue (bytes_in (m.file old n')) (m.solid old n') =
+    subst (λ z. IsWhole me.logged.list me.logged.queue (bytes_in (m.file old z)) (m.solid old z)) (sym named)
+    (kept_whole me.halt me.logged.list me.logged.queue (bytes_in (m.file old n)) (m.solid old n) c.in_default.is (c.self.invariant.1 tells')) in
+    let whole : IsWhole (me.logged.list ++ tx ∷ []) after (bytes_in (m.file new n')) (m.solid new n') = c.in_default-write_tx.ensures.whole tells' me.logged.list me.logged.queue after w done in
+    rw (c.commit.ensures.list, c.prepare.ensures.list)
+    (log_image None (me.logged.list ++ tx ∷ []) after (bytes_in (m.file new n')) image (m.solid new n') whole (subst (λ z. Leaves (m.file new) (m.solid new) z image) (sym named) left))

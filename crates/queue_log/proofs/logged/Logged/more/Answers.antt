@@ -1,0 +1,14 @@
+use Rattle.std.proofs.Common.{◌≡◌, ◌≤◌, ◌+◌, ◌<◌, length, Err, refl, ap, sym, subst, arith}
+use Rattle.pool_outer.specs.declared.limit.Which.TheVariants as which
+use Rattle.queue_log.specs.declared.error.LogError.TheVariants.{Limit, Memory}
+use Rattle.receipt_roll.specs.declared.roll.TheConstants.{MAX_ITEMS}
+use Rattle.queue_log.proofs.Refusals.{by_roll}
+use Rattle.queue_log.proofs.logged.Logged.more.Goals as goal
+
+pub returns-in-Err-clause-refused : goal.returns-in-Err-clause-refused
+returns-in-Err-clause-refused c =
+    let same = ap (λ v. length v.list) c.self.view_is in
+    subst (λ e. (e ≡ Memory → ⊥) → (e ≡ Limit which.Roll) × (MAX_ITEMS ≤ length c.args.self.now.list)) (sym c.from.ensures)
+    (by_roll (λ e. (e ≡ Memory → ⊥) → (e ≡ Limit which.Roll) × (MAX_ITEMS ≤ length c.args.self.now.list)) c.in-Err.error
+    (λ full _. (refl, (let far = c.in-Err.ensures.full.0 (ap Err full) in omega arith)))
+    (λ other. absurd (other refl)))

@@ -1,0 +1,105 @@
+use Rattle.std.proofs.Common.{◌≡◌, ◌∙◌, ◌≤◌, ◌<◌, ◌+◌, ◌-◌, ◌^◌, min, ℕ, List, true, Some, length, take, drop, refl, sym, ap, subst, arith, rules}
+use Rattle.pool_outer.specs.Files.{bytes_in}
+use Rattle.queue_record.specs.Reading.{fed, start}
+use Rattle.solid_file.proofs.Moments.{keeps_both, keeps_none}
+use Rattle.queue_log.specs.Files.{IsSound, MeetsBadLine}
+use Rattle.queue_log.specs.Stands.{bad_line}
+use Rattle.queue_log.proofs.Pieces.{bad_line_met, reads_all, reads_on, size_of}
+use Rattle.queue_log.proofs.Refusals.{refusal_on}
+use Rattle.queue_log.proofs.Sound.{sound_fed, sound_start}
+use Rattle.queue_log.proofs.read.read_pieces.Goals as goal
+
+pub pieces-init : goal.pieces-init
+pieces-init g c =
+    let m = g.D.Store in
+    let old = c.args.store.now in
+    let name = c.args.name.now in
+    record {
+      sound = subst IsSound (sym c.requires.new) sound_start;
+      good = ap (λ r. r.refusal) c.requires.new;
+      room = search rules;
+      read = λ tells. c.requires.new;
+      within = λ tells. omega arith;
+      keeps = λ tells. keeps_none m.file m.solid m.moment m.left_since name old (λ image left. g.met.D.Store.only_now old name image tells left);
+      known = λ other k. k;
+      told = refl;
+      later = omega arith;
+    }
+
+pub returns-in-Err-clause-refused : goal.returns-in-Err-clause-refused
+returns-in-Err-clause-refused g c =
+    let m = g.D.Store in
+    let old = c.args.store.now in
+    let name = c.args.name.now in
+    let inv = c.pieces.invariant in
+    let mid = c.pieces.store in
+    refusal_on
+    (λ line. m.tells mid ≡ true → MeetsBadLine c.pieces.reader (bytes_in (m.file mid name)) c.pieces.place line)
+    (λ line. m.tells old ≡ true → bad_line (bytes_in (m.file old name)) ≡ Some line)
+    (m.faults mid) (m.faults old) (m.faults c.read_piece.new.store) c.in-Err.error
+    (λ line bad tells. bad_line_met c.pieces.reader (bytes_in (m.file old name)) c.pieces.place line (inv.read tells)
+    (subst (λ f. MeetsBadLine c.pieces.reader (bytes_in f) c.pieces.place line) (inv.keeps tells).same (bad (inv.told ∙ tells))))
+    inv.later c.in-Err.ensures.refused
+
+pub returns-in-Err-clause-keeps : goal.returns-in-Err-clause-keeps
+returns-in-Err-clause-keeps g c tells =
+    let m = g.D.Store in
+    let inv = c.pieces.invariant in
+    keeps_both m.file m.solid m.moment m.left_since c.args.name.now c.args.store.now c.pieces.store c.read_piece.new.store (inv.keeps tells) (c.read_piece.ensures.keeps (inv.told ∙ tells))
+
+pub returns-then-count-eq0-clause-sound : goal.returns-then-count-eq0-clause-sound
+returns-then-count-eq0-clause-sound g c =
+    subst IsSound (sym c.in-Ok.ensures.read) (sound_fed c.pieces.reader (take c.in-Ok.count c.read_piece.new.piece) c.pieces.invariant.sound)
+
+pub returns-then-count-eq0-clause-read : goal.returns-then-count-eq0-clause-read
+returns-then-count-eq0-clause-read g c tells =
+    let m = g.D.Store in
+    let name = c.args.name.now in
+    let inv = c.pieces.invariant in
+    let size = size_of (m.file c.args.store.now name) c.args.size (c.requires.size tells) in
+    let same = ap (λ f. length (bytes_in f)) (inv.keeps tells).same in
+    let some = c.in-Ok.ensures.goes_on (inv.told ∙ tells) (omega arith) in
+    absurd (omega arith)
+
+pub returns-then-count-eq0-clause-keeps : goal.returns-then-count-eq0-clause-keeps
+returns-then-count-eq0-clause-keeps g c tells =
+    let m = g.D.Store in
+    let inv = c.pieces.invariant in
+    keeps_both m.file m.solid m.moment m.left_since c.args.name.now c.args.store.now c.pieces.store c.read_piece.new.store (inv.keeps tells) (c.read_piece.ensures.keeps (inv.told ∙ tells))
+
+pub pieces-preserved : goal.pieces-preserved
+pieces-preserved g c =
+    let m = g.D.Store in
+    let old = c.args.store.now in
+    let name = c.args.name.now in
+    let inv = c.pieces.invariant in
+    let mid = c.pieces.store in
+    let e = c.in-Ok.ensures in
+    let n = c.in-Ok.count in
+    let bytes = bytes_in (m.file old name) in
+    let on = λ (tells : m.tells old ≡ true).
+    let same = (inv.keeps tells).same in
+    let size = size_of (m.file old name) c.args.size (c.requires.size tells) in
+    let small : length bytes < 2 ^ 64 = omega (arith, size, c.ranges.size.fits) in
+    let fits : n ≤ length (drop c.pieces.place bytes) = subst (λ f. n ≤ length (drop c.pieces.place (bytes_in f))) same (e.fits (inv.told ∙ tells)) in
+    reads_on c.pieces.reader c.read_piece.new.reader bytes c.read_piece.new.piece c.pieces.place n c.saturating_add-place.result (inv.read tells) e.read
+    (e.piece (inv.told ∙ tells) ∙ ap (λ f. take n (drop c.pieces.place (bytes_in f))) same) fits small (inv.within tells) c.saturating_add-place.ensures in
+    record {
+      sound = subst IsSound (sym e.read) (sound_fed c.pieces.reader (take n c.read_piece.new.piece) inv.sound);
+      good = e.good;
+      room = search rules;
+      read = λ tells. (on tells).0;
+      within = λ tells. (on tells).1;
+      keeps = λ tells. keeps_both m.file m.solid m.moment m.left_since name old mid c.read_piece.new.store (inv.keeps tells) (c.read_piece.ensures.keeps (inv.told ∙ tells));
+      known = λ other k. c.read_piece.ensures.known other (inv.known other k);
+      told = c.read_piece.ensures.told ∙ inv.told;
+      later = let a = c.read_piece.ensures.later in let b = inv.later in omega arith;
+    }
+
+pub returns-clause-read : goal.returns-clause-read
+returns-clause-read g c tells =
+    let m = g.D.Store in
+    let name = c.args.name.now in
+    let inv = c.pieces.invariant in
+    let size = size_of (m.file c.args.store.now name) c.args.size (c.requires.size tells) in
+    reads_all c.pieces.reader (bytes_in (m.file c.args.store.now name)) c.pieces.place (inv.read tells) (omega arith)

@@ -1,0 +1,178 @@
+-- A log and its file.
+use Rattle.std.specs.Prelude.{◌≡◌, ◌⊎◌, ◌≤◌, ◌<◌, ℕ, Bool, true, List, [], ◌∷◌, ◌++◌, length, take, Option, Some, None, Ok, IsSome}
+use Rattle.pool_outer.specs.Cause.{Rose}
+use Rattle.pool_outer.specs.Files.{Contents, Lengths, Leaves, Names, bytes_in}
+use Rattle.pool_outer.specs.declared.limit.Which.TheVariants.{LogLine, Roll}
+use Rattle.receipt_roll.specs.declared.roll.TheConstants.{MAX_ITEMS}
+use Rattle.receipt_roll.specs.Values.{RollMark, ReceiptValue}
+use Rattle.queue_tx.specs.Operations.{Operation}
+use Rattle.queue_tx.specs.Printable.{IsPrintable}
+use Rattle.queue_tx.specs.Queues.{KeyedAds, queue_after}
+use Rattle.queue_record.specs.Texts.{AreTexts, first_long, tx_text}
+use Rattle.queue_record.specs.Reading.{start, fed}
+use Rattle.queue_log.specs.declared.error.LogError.{LogError}
+use Rattle.queue_log.specs.declared.error.LogError.TheVariants.{BadRecord, Limit, Disk, Memory}
+use Rattle.queue_log.specs.declared.log.Halt.{Halt}
+use Rattle.queue_log.specs.declared.recover.Opening.{Opening}
+use Rattle.queue_log.specs.NewLog.{new_log_text, opening_of}
+use Rattle.queue_log.specs.Stands.{Stands, IsBeforeOrAfter, IsSettled, bad_line}
+
+-- a log as its callers see it
+pub record LogValue (D : Type 0) : Type 0 where
+  pub store : D
+  -- the name of its file
+  pub name : List ℕ
+  -- the transactions of its roll, which roll that is, and the queue that they build
+  pub list : List (List Operation)
+  pub mark : RollMark
+  pub queue : KeyedAds
+  -- the sequence of the file among those that were rotated
+  pub sequence : ℕ
+  -- what it answers since an append has failed, and the transaction that was not acknowledged
+  pub halt : Option Halt
+
+-- ---- the file
+
+-- the file is the list, all of it solid
+pub record IsWhole (list : List (List Operation)) (queue : KeyedAds) (bytes : List ℕ) (solid : ℕ)
+    : Type 0 where
+  pub settled : IsSettled list queue bytes
+  pub durable : length bytes ≤ solid
+
+-- a transaction that may follow the list
+pub record IsPending (queue : KeyedAds) (tx : List Operation) : Type 0 where
+  pub printable : IsPrintable tx
+  pub fits : first_long tx ≡ None
+  pub texts : AreTexts tx
+  pub after : KeyedAds
+  pub applies : queue_after queue tx ≡ Ok after
+
+-- behind the list, all of which is solid, stands a prefix of the text of one transaction
+pub record IsTorn (list : List (List Operation)) (queue : KeyedAds) (tx : List Operation)
+    (bytes : List ℕ) (solid : ℕ) : Type 0 where
+  pub base : List ℕ
+  pub count : ℕ
+  pub settled : IsSettled list queue base
+  pub durable : length base ≤ solid
+  pub pending : IsPending queue tx
+  pub parts : bytes ≡ base ++ take count (tx_text tx)
+
+-- what always holds of a log's file
+abbrev pub KeepsLog
+    : Option Halt → List (List Operation) → KeyedAds → List ℕ → ℕ → Type 0
+KeepsLog None list queue bytes solid = IsWhole list queue bytes solid
+KeepsLog (Some halt) list queue bytes solid = IsTorn list queue halt.pending bytes solid
+
+-- what the images of a log's file stand for: its list, or that with the pending transaction
+abbrev pub StandsForLog : Option Halt → List (List Operation) → List ℕ → Type 0
+StandsForLog None list image = Stands list image
+StandsForLog (Some halt) list image = IsBeforeOrAfter list halt.pending image
+
+-- a stop leaves of a file what stands for these transactions
+abbrev pub StandsDurably
+    : Contents → Lengths → List ℕ → List (List Operation) → Type 0
+StandsDurably file solid name list =
+    (image : List ℕ) → Leaves file solid name image → Stands list image
+
+-- ---- append
+
+abbrev pub receipt_of : {D : Type 0} → LogValue D → List Operation → ReceiptValue (List Operation)
+receipt_of log tx = record { number = length log.list; item = tx; mark = log.mark }
+
+-- the transaction is the last of the list, and done to the queue
+pub record IsAppended {D : Type 0} (old new : LogValue D) (tx : List Operation) : Type 0 where
+  pub listed : new.list ≡ old.list ++ tx ∷ []
+  pub queued : queue_after old.queue tx ≡ Ok new.queue
+  pub same_roll : new.mark ≡ old.mark
+  pub same_file : (new.name ≡ old.name) × (new.sequence ≡ old.sequence)
+  pub goes_on : new.halt ≡ None
+
+-- nothing but the store has changed, and the log answers this error from now on
+abbrev pub IsHalted : {D : Type 0} → LogValue D → LogValue D → List Operation → LogError → Type 0
+IsHalted old new tx error = new ≡ record old {
+  store = new.store;
+  halt = Some (record { error = error; pending = tx });
+}
+
+-- Why an append was refused, and what it left: nothing has changed, or the log is halted.
+abbrev pub IsAppendRefused
+    : {D : Type 0} → LogValue D → LogValue D → List Operation → ℕ → ℕ → LogError → Type 0
+IsAppendRefused old new tx before now (BadRecord line) = ⊥
+IsAppendRefused old new tx before now (Limit LogLine) = (new ≡ old) × IsSome (first_long tx)
+IsAppendRefused old new tx before now (Limit Roll) =
+    (new ≡ old) × (first_long tx ≡ None) × (MAX_ITEMS ≤ length old.list)
+IsAppendRefused old new tx before now (Limit which) = ⊥
+IsAppendRefused old new tx before now Disk =
+    IsHalted old new tx Disk × (first_long tx ≡ None) × (length old.list < MAX_ITEMS)
+    × Rose before now
+IsAppendRefused old new tx before now Memory = (new ≡ old) ⊎ IsHalted old new tx Memory
+
+-- ---- recovery
+
+-- What recovery makes of the bytes of a file: these transactions, this queue and this sequence; and
+-- what it leaves of them.
+pub record IsRecovered (old new : List ℕ) (reading : ℕ) (list : List (List Operation))
+    (queue : KeyedAds) (sequence : ℕ) : Type 0 where
+  pub good : bad_line (opening_of old reading) ≡ None
+  pub listed : list ≡ (fed start (opening_of old reading)).list
+  pub queued : queue ≡ (fed start (opening_of old reading)).queue
+  pub sequenced : sequence ≡ (fed start (opening_of old reading)).sequence
+  pub cut : 0 < length old → new ≡ take (fed start old).whole old
+  pub made : length old ≡ 0 → new ≡ new_log_text reading
+
+-- while it does so, the file stands for what it stood for, or for what recovery makes of it
+abbrev pub StandsForOpening : List ℕ → ℕ → List ℕ → Type 0
+StandsForOpening old reading image =
+    Stands (fed start old).list image ⊎ Stands (fed start (opening_of old reading)).list image
+
+-- the same of what a log begins with, whose file is then whole
+pub record IsOpened (old new : List ℕ) (solid reading : ℕ) (opening : Opening) : Type 0 where
+  pub recovered :
+      IsRecovered old new reading opening.logged.list opening.logged.queue opening.sequence
+  pub whole : IsWhole opening.logged.list opening.logged.queue new solid
+
+-- Why a file's log can't be recovered, the first of which two are told only of a store that tells
+-- what its files hold: a line is bad; there are too many transactions; the store has failed; memory
+-- has run out.
+abbrev pub IsRecoverRefused : Bool → List ℕ → ℕ → ℕ → LogError → Type 0
+IsRecoverRefused tells bytes before now (BadRecord line) =
+    tells ≡ true → bad_line bytes ≡ Some line
+IsRecoverRefused tells bytes before now (Limit Roll) =
+    tells ≡ true → (bad_line bytes ≡ None) × (MAX_ITEMS < length (fed start bytes).list)
+IsRecoverRefused tells bytes before now (Limit which) = ⊥
+IsRecoverRefused tells bytes before now Disk = Rose before now
+IsRecoverRefused tells bytes before now Memory = Unit {0}
+
+-- ---- reattaching
+
+-- The log goes on with what its file has: the same list, or a further transaction, with its
+-- receipt.
+abbrev pub IsReattached
+    : {D : Type 0} → LogValue D → LogValue D → Option (ReceiptValue (List Operation)) → Type 0
+IsReattached old new None = new ≡ record old { store = new.store; halt = None }
+IsReattached old new (Some receipt) =
+    IsAppended old new receipt.item × (receipt ≡ receipt_of old receipt.item)
+
+-- what the bytes of a file stand for, where that receipt is handed out
+abbrev pub StandsWithReceipt
+    : List (List Operation) → Option (ReceiptValue (List Operation)) → List ℕ → Type 0
+StandsWithReceipt list None bytes = Stands list bytes
+StandsWithReceipt list (Some receipt) bytes = Stands (list ++ receipt.item ∷ []) bytes
+
+-- Why a log can't go on: the file differs from what the log wrote, which never comes where the
+-- store tells what its files hold; the roll is full; the store has failed; memory has run out.
+abbrev pub IsReattachRefused
+    : Bool → List (List Operation) → ℕ → ℕ → LogError → Type 0
+IsReattachRefused tells list before now (BadRecord line) = tells ≡ true → ⊥
+IsReattachRefused tells list before now (Limit Roll) = MAX_ITEMS ≤ length list
+IsReattachRefused tells list before now (Limit which) = ⊥
+IsReattachRefused tells list before now Disk = Rose before now
+IsReattachRefused tells list before now Memory = Unit {0}
+
+-- ---- another file
+
+-- why bytes can't be written beside the log
+abbrev pub IsBesideRefused : ℕ → ℕ → LogError → Type 0
+IsBesideRefused before now Disk = Rose before now
+IsBesideRefused before now Memory = Unit {0}
+IsBesideRefused before now e = ⊥

@@ -1,0 +1,181 @@
+ghost use Rattle.std.specs.Prelude.{◌≡◌, ◌<◌, ◌≤◌, ℕ, List, true, None, Some, length, IfOk, IfErr, OnOk};
+ghost use Rattle.std.specs.Option.{option_map};
+ghost use Rattle.pool_outer.specs.declared.clock.TheConstants.{LAST_READING};
+ghost use Rattle.pool_outer.specs.Files.{bytes_in};
+ghost use Rattle.queue_log.specs.Logged.{IsLogged, IsTooMany};
+ghost use Rattle.queue_log.specs.Logs.{IsOpened, IsRecovered, IsRecoverRefused};
+
+use crate::error::LogError;
+use crate::log::Log;
+use crate::logged::Logged;
+use crate::new_log::new_log;
+use crate::read::read_log;
+use ad_value::Text;
+use pool_outer::{Store, StoreError};
+use queue_record::ReadLog;
+use queue_tx::{Queue, TxList};
+use solid_file::{append_solid, cut_behind};
+use std::alloc::Global;
+
+/// What a log begins with.
+#[derive(Drop)]
+struct Opening {
+    name: Text,
+    sequence: u64,
+    logged: Logged,
+}
+
+impl<D: Store> Log<D> {
+    /// The log in the file of that name, with the queue that its transactions build; what follows
+    /// its last whole transaction is cut. Where there is no file, or an empty one, it is made a new
+    /// log, begun at the reading. A file that is there is made solid first.
+    ///
+    /// `BadRecord` has the first bad line, from 1. An error gives the store back; nothing was cut
+    /// then, and where the log is new the file may have a prefix of its text. Computes in O(bytes
+    /// of the file), and in the time of the transactions.
+    pub fn recover(
+        alloc: Global,
+        mut store: D,
+        name: &str,
+        reading: u64,
+    ) -> Result<Log<D>, (D, LogError)>
+        requires { reading ≤ LAST_READING }
+
+        ensures named { IfOk result (λ log. log.name ≡ name.now) }
+        ensures goes_on { IfOk result (λ log. log.halt ≡ None) }
+        ensures recovered { D.tells store ≡ true → IfOk result (λ log. IsRecovered
+            (bytes_in (D.file store name.now)) (bytes_in (D.file log.store name.now)) reading
+            log.list log.queue log.sequence) }
+        ensures told { IfOk result (λ log. D.tells log.store ≡ D.tells store) }
+        ensures refused { IfErr result (λ p. IsRecoverRefused (D.tells store)
+            (bytes_in (D.file store name.now)) (D.faults store) (D.faults p.0) p.1) }
+    {
+        match begin_or_resume(alloc, &mut store, name, reading) {
+            Ok(opening) => {
+                let Opening {
+                    name,
+                    sequence,
+                    logged,
+                } = opening;
+                Ok(Log {
+                    store,
+                    name,
+                    sequence,
+                    logged,
+                    halt: None,
+                })
+            }
+            Err(error) => Err((store, error)),
+        }
+    }
+}
+
+fn begin_or_resume<D: Store>(
+    alloc: Global,
+    store: &mut D,
+    name: &str,
+    reading: u64,
+) -> Result<Opening, LogError>
+    ensures named { IfOk result (λ opening. opening.name ≡ name.now) }
+    ensures opened { D.tells store.old ≡ true → IfOk result
+        (IsOpened (bytes_in (D.file store.old name.now)) (bytes_in (D.file store.new name.now))
+        (D.solid store.new name.now) reading) }
+    ensures refused { IfErr result (IsRecoverRefused (D.tells store.old)
+        (bytes_in (D.file store.old name.now)) (D.faults store.old) (D.faults store.new)) }
+    ensures known { OnOk result (D.known store.new name.now ≡ true) }
+    ensures told { D.tells store.new ≡ D.tells store.old }
+{
+    match store.size(alloc, name) {
+        Ok(0) => begin(alloc, store, name, reading),
+        Ok(size) => resume(alloc, store, name, size),
+        Err(StoreError::Missing) => begin(alloc, store, name, reading),
+        Err(StoreError::Failed) => Err(LogError::Disk),
+        Err(StoreError::Memory) => Err(LogError::Memory),
+    }
+}
+
+// Goes on with the log in a file of that size.
+fn resume<D: Store>(
+    alloc: Global,
+    store: &mut D,
+    name: &str,
+    size: u64,
+) -> Result<Opening, LogError>
+    requires known { D.known store.old name.now ≡ true }
+    requires size { D.tells store.old ≡ true
+        → option_map length (D.file store.old name.now) ≡ Some size }
+    requires some { 0 < size }
+
+    ensures named { IfOk result (λ opening. opening.name ≡ name.now) }
+    ensures opened { D.tells store.old ≡ true → IfOk result (λ opening. (reading : ℕ)
+        → IsOpened (bytes_in (D.file store.old name.now)) (bytes_in (D.file store.new name.now))
+        (D.solid store.new name.now) reading opening) }
+    ensures refused { IfErr result (IsRecoverRefused (D.tells store.old)
+        (bytes_in (D.file store.old name.now)) (D.faults store.old) (D.faults store.new)) }
+    ensures known { (other : List ℕ) → D.known store.old other ≡ true
+        → D.known store.new other ≡ true }
+    ensures told { D.tells store.new ≡ D.tells store.old }
+{
+    let ReadLog {
+        list,
+        queue,
+        whole,
+        sequence,
+    } = read_log(alloc, store, name, size)?;
+    let opening = opening_of(alloc, name, sequence, list, queue)?;
+    match cut_behind(alloc, store, name, size, whole) {
+        Ok(()) => Ok(opening),
+        Err(error) => Err(LogError::from(error)),
+    }
+}
+
+// Begins a log in a file that isn't there or is empty.
+fn begin<D: Store>(
+    alloc: Global,
+    store: &mut D,
+    name: &str,
+    reading: u64,
+) -> Result<Opening, LogError>
+    requires { D.tells store.old ≡ true
+        → length (bytes_in (D.file store.old name.now)) ≡ 0 }
+
+    ensures named { IfOk result (λ opening. opening.name ≡ name.now) }
+    ensures opened { D.tells store.old ≡ true → IfOk result
+        (IsOpened (bytes_in (D.file store.old name.now)) (bytes_in (D.file store.new name.now))
+        (D.solid store.new name.now) reading) }
+    ensures refused { IfErr result (IsRecoverRefused (D.tells store.old)
+        (bytes_in (D.file store.old name.now)) (D.faults store.old) (D.faults store.new)) }
+    ensures known { OnOk result (D.known store.new name.now ≡ true) }
+    ensures told { D.tells store.new ≡ D.tells store.old }
+{
+    let new = new_log(alloc, reading)?;
+    let Ok(opening) = opening_of(alloc, name, 1, new.list, new.queue) else {
+        return Err(LogError::Memory);
+    };
+    match append_solid(alloc, store, name, new.text.as_str().as_bytes()) {
+        Ok(()) => Ok(opening),
+        Err(error) => Err(LogError::from(error)),
+    }
+}
+
+fn opening_of(
+    alloc: Global,
+    name: &str,
+    sequence: u64,
+    list: TxList,
+    queue: Queue,
+) -> Result<Opening, LogError>
+    requires { IsLogged list queue }
+    ensures opening { IfOk result (λ opening. (opening.name ≡ name.now)
+        × (opening.sequence ≡ sequence) × (opening.logged.list ≡ list)
+        × (opening.logged.queue ≡ queue)) }
+    ensures refused { IfErr result (IsTooMany list) }
+{
+    let name = Text::from_str(alloc, name)?;
+    let logged = Logged::new(alloc, list, queue)?;
+    Ok(Opening {
+        name,
+        sequence,
+        logged,
+    })
+}
