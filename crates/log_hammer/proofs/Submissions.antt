@@ -20,13 +20,13 @@ both false b h = absurd (cc h)
 not_equal : (b c : ℕ) → not (b == c) ≡ true → b ≢ c
 not_equal b c h e = grind (arith, nat_tests)
 
-word_of : (bs : List ℕ) → list_all (λ b. not (b == 32) && (not (b == 9) && not (b == 10))) bs ≡ true → IsWord bs
-word_of [] h = tt
-word_of (b ∷ bs) h =
+as_word : (bs : List ℕ) → list_all (λ b. not (b == 32) && (not (b == 9) && not (b == 10))) bs ≡ true → IsWord bs
+as_word [] h = tt
+as_word (b ∷ bs) h =
     let all = both (not (b == 32) && (not (b == 9) && not (b == 10))) (list_all (λ b. not (b == 32) && (not (b == 9) && not (b == 10))) bs) h in
     let here = both (not (b == 32)) (not (b == 9) && not (b == 10)) all.0 in
     let next = both (not (b == 9)) (not (b == 10)) here.1 in
-    (not_equal b 32 here.0, not_equal b 9 next.0, not_equal b 10 next.1, word_of bs all.1)
+    (not_equal b 32 here.0, not_equal b 9 next.0, not_equal b 10 next.1, as_word bs all.1)
 
 one_printable : IsPrintableTree (integer_literal 1)
 one_printable =
@@ -40,7 +40,7 @@ status_is_name = refl
 
 submission_printable : (cluster : ℕ) → 0 < cluster → cluster < 2 ^ 32 → IsPrintable (submission cluster)
 submission_printable cluster some small = (
-  (record { cluster_from = some; cluster_to = small; proc_to = omega arith }, word_of (codes "Job") refl, word_of (codes "Machine") refl),
+  (record { cluster_from = some; cluster_to = small; proc_to = omega arith }, as_word (codes "Job") refl, as_word (codes "Machine") refl),
   ((record { cluster_from = some; cluster_to = small; proc_to = omega arith }, status_is_name, one_printable), tt),
 )
 
