@@ -1,9 +1,12 @@
 use crate::asking::answer_asking;
 use crate::boots::{answer_boot_line, answer_boots};
+use crate::fails::answer_fails;
 use crate::lines::answer_line;
 use crate::operations::answer_print;
 use crate::queues::{answer_apply, answer_kind};
 use crate::reading::{answer_cuts, answer_read};
+use crate::stops::answer_stops;
+use crate::tails::answer_tails;
 use cases::{Case, CaseError, read_cases};
 use std::alloc::Global;
 
@@ -25,6 +28,9 @@ fn answer(alloc: Global, case: Case<'_>, out: &mut String) -> Result<(), CaseErr
         "kind" => answer_kind(alloc, case, out),
         "read" => answer_read(alloc, case, out),
         "cuts" => answer_cuts(alloc, case, out),
+        "tails" => answer_tails(alloc, case, out),
+        "stops" => answer_stops(alloc, case, out),
+        "fails" => answer_fails(alloc, case, out),
         "boots" => answer_boots(alloc, case, out),
         "boot-line" => answer_boot_line(alloc, case, out),
         _ => Err(CaseError::Kind { line: case.line }),

@@ -2,17 +2,23 @@
 //! output.
 //!
 //! `read BYTES`, `line BYTES NUMBER`, `print OP ..`, `apply COUNT KEYAD .. OP ..`,
-//! `asking AD COUNT KEYAD .. OP ..`, `cuts BYTES`, `kind AD`, `boots BYTES`, `boot-line NUMBER`:
-//! README.md says what each answers.
+//! `asking AD COUNT KEYAD .. OP ..`, `cuts BYTES`, `tails BYTES`, `stops BYTES`, `fails GAP BYTES`,
+//! `kind AD`, `boots BYTES`, `boot-line NUMBER`: README.md says what each answers.
 #![tactic(auto)]
 
 mod answers;
 mod asking;
 mod boots;
+mod fails;
 mod lines;
+mod logs;
 mod operations;
+mod printable;
 mod queues;
 mod reading;
+mod recovery;
+mod stops;
+mod tails;
 
 use crate::answers::answer_all;
 use anyhow::Result;

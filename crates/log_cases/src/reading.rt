@@ -1,12 +1,14 @@
 use crate::lines::{write_op, write_refusal};
 use crate::queues::write_queue;
+use crate::recovery::recovers_as_read;
 use cases::{Case, CaseError};
 use queue_record::{ReadLog, Reader, RecordError};
-use queue_tx::Tx;
+use queue_tx::{Queue, Tx};
 use std::alloc::{AllocError, Global};
 use std::fmt::Write;
 
-/// What the bytes of a log stand for, however they are fed: `read BYTES`.
+/// What the bytes of a log stand for, however they are fed, and when the log is recovered:
+/// `read BYTES`.
 pub(crate) fn answer_read(
     alloc: Global,
     case: Case<'_>,
@@ -16,10 +18,12 @@ pub(crate) fn answer_read(
     let whole = answer_in_pieces(alloc, &bytes, bytes.len().max(1))?;
     let by_seven = answer_in_pieces(alloc, &bytes, 7)?;
     let by_one = answer_in_pieces(alloc, &bytes, 1)?;
-    if by_seven == whole && by_one == whole {
+    if by_seven != whole || by_one != whole {
+        out.push_str("the pieces matter")?;
+    } else if recovers_as_read(alloc, &bytes)? {
         out.push_str(whole.as_str())?;
     } else {
-        out.push_str("the pieces matter")?;
+        out.push_str("differs")?;
     }
     Ok(())
 }
@@ -33,7 +37,12 @@ fn answer_in_pieces(alloc: Global, bytes: &[u8], size: usize) -> Result<String, 
     Ok(answer)
 }
 
-fn read_in_pieces(alloc: Global, bytes: &[u8], size: usize) -> Result<ReadLog, RecordError> {
+/// What is read of bytes that are fed in pieces of this size.
+pub(crate) fn read_in_pieces(
+    alloc: Global,
+    bytes: &[u8],
+    size: usize,
+) -> Result<ReadLog, RecordError> {
     let mut reader = Reader::new(alloc);
     for piece in bytes.chunks(size.max(1)) {
         reader.feed(piece)?;
@@ -41,14 +50,26 @@ fn read_in_pieces(alloc: Global, bytes: &[u8], size: usize) -> Result<ReadLog, R
     Ok(reader.end())
 }
 
-fn write_log(alloc: Global, log: &ReadLog, out: &mut String) -> Result<(), AllocError> {
+/// Appends what was read.
+pub(crate) fn write_log(alloc: Global, log: &ReadLog, out: &mut String) -> Result<(), AllocError> {
     let whole = log.whole;
-    let count = log.list.len();
-    write!(out, "ok\t{whole}\t{count}")?;
-    for tx in log.list.as_slice() {
+    write!(out, "ok\t{whole}\t")?;
+    write_list(alloc, log.list.as_slice(), &log.queue, out)
+}
+
+/// Appends how many transactions there are, these, and the queue.
+pub(crate) fn write_list(
+    alloc: Global,
+    list: &[Tx],
+    queue: &Queue,
+    out: &mut String,
+) -> Result<(), AllocError> {
+    let count = list.len();
+    write!(out, "{count}")?;
+    for tx in list {
         write_tx(alloc, tx, out)?;
     }
-    write_queue(alloc, &log.queue, out)
+    write_queue(alloc, queue, out)
 }
 
 fn write_tx(alloc: Global, tx: &Tx, out: &mut String) -> Result<(), AllocError> {
