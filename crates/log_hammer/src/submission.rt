@@ -52,7 +52,6 @@ fn first_job(cluster: u32) -> Key
     Key::Proc(JobId { cluster, proc: 0 })
 }
 
-#[tactic(auto, using(crate::proofs::Submissions::printable_if_ok))]
 fn printable_submission(alloc: Global, cluster: u32) -> Result<Tx, Memory>
     requires { 0 < cluster }
     ensures { IfOk result (λ tx. IsPrintable tx) }
