@@ -3,6 +3,8 @@ pub mod Queues
 pub mod Steps
 pub mod Transactions
 pub mod KeptJobs
+pub mod PeriodicJobs
+pub mod Undone
 pub mod RequestLemmas
 pub mod Rooms
 pub mod RequestDigests

@@ -9,6 +9,7 @@ pub mod Prepared
 pub mod Laws
 pub mod Jobs
 pub mod Kept
+pub mod Periodic
 pub mod Requests
 pub mod RequestDigests
 pub mod Asked

@@ -3,10 +3,12 @@ ghost use Rattle.queue_tx.specs.Asked.{IsReady};
 ghost use Rattle.queue_tx.specs.Jobs.{kind_under};
 ghost use Rattle.queue_tx.specs.declared.kind.JobKind.{JobKind};
 ghost use Rattle.queue_tx.specs.Kept.{is_kind, of_kind, SetsKey};
+ghost use Rattle.queue_tx.specs.Periodic.{IsReadyPeriodic};
 
 use crate::asked::{Asked, new_place, place_of};
 use crate::key::Key;
 use crate::kind::{JobKind, kind_under};
+use crate::periodic::new_periodic;
 use ad_tree::Ad;
 use ad_value::{Copied, Memory};
 use ordered_map::{NewEntry, OrderedMap};
@@ -91,13 +93,13 @@ impl Kinds {
     }
 }
 
-fn set(keys: &mut KeySet, entry: NewEntry<Key, Here>)
+pub(crate) fn set(keys: &mut KeySet, entry: NewEntry<Key, Here>)
     ensures { SetsKey entry.0 true keys.old keys.new }
 {
     keys.put(entry);
 }
 
-fn clear(keys: &mut KeySet, key: &Key)
+pub(crate) fn clear(keys: &mut KeySet, key: &Key)
     ensures { SetsKey key.now false keys.old keys.new }
 {
     let _ = keys.remove(key);
@@ -118,6 +120,7 @@ impl Copied for Kinds {
 pub(crate) struct ReadyAd {
     ad: NewEntry<Key, Ad>,
     job: NewEntry<Key, Here>,
+    periodic: Option<NewEntry<Key, Here>>,
     asked: Option<NewEntry<Asked, Here>>,
 }
 
@@ -128,6 +131,7 @@ impl Model for ReadyAd {
     ghost use Rattle.ad_tree.specs.TreeCode.{attributes_code};
     ghost use Rattle.queue_tx.specs.Asked.{IsReady};
     ghost use Rattle.queue_tx.specs.OperationCode.{key_code};
+    ghost use Rattle.queue_tx.specs.Periodic.{IsReadyPeriodic};
     ghost use Rattle.queue_tx.specs.declared.key.Key.{Key};
 
     ghost Value = { Key × Attributes };
@@ -136,7 +140,7 @@ impl Model for ReadyAd {
 
     ghost view = { λ r. r.ad };
 
-    ghost invariant = { λ r. IsReady r.ad r.job.0 r.asked };
+    ghost invariant = { λ r. IsReady r.ad r.job.0 r.asked × IsReadyPeriodic r.ad r.periodic };
 }
 
 impl ReadyAd {
@@ -144,9 +148,22 @@ impl ReadyAd {
         ensures { IfOk result (λ r. r ≡ (key, ad)) }
     {
         let asked = new_place(alloc, place_of(&key, &ad))?;
+        let periodic = new_periodic(alloc, &key, &ad)?;
         let job = NewEntry::new(alloc, key, Here)?;
         let ad = NewEntry::new(alloc, key, ad)?;
-        Ok(ReadyAd { ad, job, asked })
+        Ok(ReadyAd {
+            ad,
+            job,
+            periodic,
+            asked,
+        })
+    }
+
+    // The key under which it is to stand.
+    pub(crate) fn key(&self) -> Key
+        ensures { result ≡ self.now.0 }
+    {
+        *self.ad.key()
     }
 
     // What the ad makes of the job under its key.
@@ -159,9 +176,20 @@ impl ReadyAd {
     pub(crate) fn into_entries(self) -> ReadyEntries
         ensures ad { result.ad ≡ self }
         ensures ready { IsReady result.ad result.job.0 result.asked }
+        ensures periodic { IsReadyPeriodic result.ad result.periodic }
     {
-        let ReadyAd { ad, job, asked } = self;
-        ReadyEntries { ad, job, asked }
+        let ReadyAd {
+            ad,
+            job,
+            periodic,
+            asked,
+        } = self;
+        ReadyEntries {
+            ad,
+            job,
+            periodic,
+            asked,
+        }
     }
 }
 
@@ -170,5 +198,6 @@ impl ReadyAd {
 pub(crate) struct ReadyEntries {
     pub(crate) ad: NewEntry<Key, Ad>,
     pub(crate) job: NewEntry<Key, Here>,
+    pub(crate) periodic: Option<NewEntry<Key, Here>>,
     pub(crate) asked: Option<NewEntry<Asked, Here>>,
 }

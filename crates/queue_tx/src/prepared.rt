@@ -7,7 +7,7 @@ ghost use Rattle.queue_tx.specs.declared.error.ApplyError.TheVariants as error;
 ghost use Rattle.queue_tx.specs.Keys.{key_cmp, same_key};
 ghost use Rattle.queue_tx.specs.Operations.{operation, set_attr};
 ghost use Rattle.queue_tx.specs.Queues.{ad_after, ad_at, after_op, after_ops, with_changes, IsQueue};
-ghost use Rattle.queue_tx.specs.Prepared.{change_of};
+ghost use Rattle.queue_tx.specs.Prepared.{change_of, kept_at, undo_of};
 
 use crate::error::ApplyError;
 use crate::kept::ReadyAd;
@@ -61,6 +61,17 @@ impl Prepared {
         Ok(Prepared { changes })
     }
 
+    // What brings back what a queue has under the keys that are changed, with its memory.
+    pub(crate) fn undo(&self, alloc: Global, queue: &Queue) -> Result<Prepared, Memory>
+        ensures { IfOk result (λ undo. undo ≡ undo_of queue.now self.now) }
+    {
+        let mut changes = Vec::new(alloc);
+        for change in &self.changes {
+            changes.push(change.undo(alloc, queue)?)?;
+        }
+        Ok(Prepared { changes })
+    }
+
     // The changes, in order of key.
     pub(crate) fn into_vec(self) -> Vec<Change>
         ensures { map change_of result.items ≡ self }
@@ -79,6 +90,24 @@ impl Change {
             None => Ok(Change::Remove(key)),
             Some(ad) => Ok(Change::Put(ReadyAd::new(alloc, key, ad)?)),
         }
+    }
+
+    fn key(&self) -> Key
+        ensures { result ≡ (change_of self.now).0 }
+    {
+        match self {
+            Change::Put(ready) => ready.key(),
+            Change::Remove(key) => *key,
+        }
+    }
+
+    // What a queue has under its key.
+    fn undo(&self, alloc: Global, queue: &Queue) -> Result<Change, Memory>
+        ensures { IfOk result (λ undo. change_of undo ≡ kept_at queue.now (change_of self.now)) }
+    {
+        let key = self.key();
+        let ad = copy_of(alloc, queue.get(&key))?;
+        Change::of(alloc, key, ad)
     }
 }
 

@@ -7,14 +7,16 @@ ghost use Rattle.queue_tx.specs.declared.key.Key.{Key};
 ghost use Rattle.queue_tx.specs.declared.error.ApplyError.TheVariants as error;
 ghost use Rattle.queue_tx.specs.Queues.{ad_at, key_after, queue_after, with_ad, with_changes, IsQueue};
 ghost use Rattle.queue_tx.specs.Jobs.{FirstKey, IsJobOf};
+ghost use Rattle.queue_tx.specs.Periodic.{IsPeriodic};
 ghost use Rattle.queue_tx.specs.Prepared.{change_of};
 ghost use Rattle.queue_tx.specs.Requests.{IsIdleAsking, SameRequest};
 
 use crate::asked::{AskedSet, asked_under, first_asked, replace};
 use crate::error::ApplyError;
-use crate::kept::{Kinds, ReadyEntries};
+use crate::kept::{KeySet, Kinds, ReadyEntries, clear};
 use crate::key::Key;
 use crate::kind::JobKind;
+use crate::periodic::keep;
 use crate::prepared::{Change, Prepared, changes_of};
 use crate::request::{makes_same_request, request_digest};
 use crate::tx::Tx;
@@ -30,6 +32,8 @@ use std::ops::Bound;
 pub struct Queue {
     ads: OrderedMap<Key, Ad>,
     kinds: Kinds,
+    // The keys of the jobs with a periodic expression.
+    periodic: KeySet,
     // The idle jobs by what they ask for.
     asked: AskedSet,
 }
@@ -45,10 +49,12 @@ impl Model for Queue {
 
     ghost use Rattle.queue_tx.specs.Kept.{AreKinds};
     ghost use Rattle.queue_tx.specs.Asked.{ArePlaces, DoIdleNamesDiffer};
+    ghost use Rattle.queue_tx.specs.Periodic.{ArePeriodic};
 
     ghost invariant = { λ q. AreKinds q.kinds q.ads
         × ArePlaces q.asked q.ads
-        × DoIdleNamesDiffer q.ads };
+        × DoIdleNamesDiffer q.ads
+        × ArePeriodic q.periodic q.ads };
 }
 
 impl Queue {
@@ -59,6 +65,7 @@ impl Queue {
         Queue {
             ads: OrderedMap::new(),
             kinds: Kinds::new(),
+            periodic: OrderedMap::new(),
             asked: OrderedMap::new(),
         }
     }
@@ -86,6 +93,15 @@ impl Queue {
         ensures { FirstKey (IsJobOf kind self.now) start.entry (option_copied result) }
     {
         let entry = self.kinds.of(kind).first_past(start)?;
+        Some(entry.0)
+    }
+
+    /// The first job past a bound whose ad has a periodic expression, by the order of the keys,
+    /// without memory. Computes in O(log jobs).
+    pub fn first_periodic(&self, start: Bound<&Key>) -> Option<&Key>
+        ensures { FirstKey (IsPeriodic self.now) start.entry (option_copied result) }
+    {
+        let entry = self.periodic.first_past(start)?;
         Some(entry.0)
     }
 
@@ -136,6 +152,17 @@ impl Queue {
         Ok(Prepared::of(alloc, changes)?)
     }
 
+    /// What, done after what was prepared, brings the queue back as it is, with the memory that it
+    /// takes. Changes nothing. Computes in O(changed ads times log ads), and for each of them in
+    /// O(its size).
+    pub fn undo_of(&self, alloc: Global, prepared: &Prepared) -> Result<Prepared, Memory>
+        ensures { IfOk result
+            (λ undo. with_changes (with_changes self.now prepared.now) undo ≡ self.now) }
+    {
+        let _ = self.get(&Key::Header);
+        prepared.undo(alloc, self)
+    }
+
     /// Does what was prepared, without memory, which can't fail. Computes in O(changed ads times
     /// log ads), and in O(size) for each idle job's ad that is replaced.
     pub fn commit(&mut self, prepared: Prepared)
@@ -153,16 +180,24 @@ impl Queue {
         match change {
             Change::Put(ready) => {
                 let kind = ready.kind();
-                let ReadyEntries { ad, job, asked } = ready.into_entries();
-                let old = asked_under(ad.key(), self.ads.get(ad.key()));
+                let ReadyEntries {
+                    ad,
+                    job,
+                    periodic,
+                    asked,
+                } = ready.into_entries();
+                let key = *ad.key();
+                let old = asked_under(&key, self.ads.get(&key));
                 self.ads.put(ad);
                 self.kinds.put(job, kind);
+                keep(&mut self.periodic, &key, periodic);
                 replace(&mut self.asked, old, asked);
             }
             Change::Remove(key) => {
                 let old = asked_under(&key, self.ads.get(&key));
                 let _ = self.ads.remove(&key);
                 self.kinds.remove(&key);
+                clear(&mut self.periodic, &key);
                 replace(&mut self.asked, old, None);
             }
         }
@@ -196,6 +231,7 @@ impl Copied for Queue {
         Ok(Queue {
             ads: self.ads.copy(alloc)?,
             kinds: self.kinds.copy(alloc)?,
+            periodic: self.periodic.copy(alloc)?,
             asked: self.asked.copy(alloc)?,
         })
     }
