@@ -60,21 +60,22 @@ fn names_job(kept: &KeptClaim, job: JobId) -> bool
     is_active(kept.stage) && kept.job == job
 }
 
-/// The place of a claim, by its number.
+/// The place of a claim, by its number. Computes in O(claims), without memory.
 pub fn place_of_claim(claims: &[KeptClaim], no: ClaimNo) -> Option<usize>
     ensures { result ≡ place_of_claim no claims.now }
 {
     claims.iter().position(|kept| is_claim(kept, no))
 }
 
-/// Whether a claim that is asked for or ready names the job.
+/// Whether a claim that is asked for or ready names the job. Computes in O(claims), without
+/// memory.
 pub fn engages(claims: &[KeptClaim], job: JobId) -> bool
     ensures { result ≡ engages job claims.now }
 {
     claims.iter().any(|kept| names_job(kept, job))
 }
 
-/// The claim of a place has come so far.
+/// The claim of a place has come so far. Computes in O(1).
 pub fn set_stage(claims: &mut Vec<KeptClaim>, place: usize, stage: Stage)
     ensures { claims.new.items ≡ with_stage place stage claims.old.items }
 {
@@ -83,7 +84,7 @@ pub fn set_stage(claims: &mut Vec<KeptClaim>, place: usize, stage: Stage)
     }
 }
 
-/// The claim of a place names the job.
+/// The claim of a place names the job. Computes in O(1).
 pub fn set_job(claims: &mut Vec<KeptClaim>, place: usize, job: JobId)
     ensures { claims.new.items ≡ with_job place job claims.old.items }
 {
@@ -92,7 +93,7 @@ pub fn set_job(claims: &mut Vec<KeptClaim>, place: usize, job: JobId)
     }
 }
 
-/// The claim of a place goes.
+/// The claim of a place goes. Computes in O(claims).
 pub fn remove_claim(claims: &mut Vec<KeptClaim>, place: usize)
     ensures { claims.new.items ≡ claims_without place claims.old.items }
 {

@@ -29,7 +29,8 @@ fn completion_of(how: How) -> Option<Completion>
     }
 }
 
-/// What becomes of a job whose run has ended.
+/// What becomes of a job whose run has ended. Evaluates OnExitHold
+/// and OnExitRemove where its program came to its end; else computes in O(attributes).
 #[tactic(auto, unfolding(crate::specs::EndTable::ended_ad_plan))]
 pub fn ended_plan(
     alloc: Global,

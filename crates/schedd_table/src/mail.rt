@@ -72,7 +72,7 @@ fn is_idle_place(place: JobPlace) -> bool
     }
 }
 
-/// A match of a job and a claim.
+/// A match of a job and a claim. Computes in O(1), as do the other rows.
 pub fn matched_row(place: JobPlace, engaged: bool, known: Option<usize>, found: &Match) -> MailRow
     ensures { result ≡ matched_row place engaged known found.now }
 {
@@ -132,6 +132,7 @@ pub fn denied_row(known: Option<(usize, Stage)>, of_run: bool, why: Why) -> Mail
     }
 }
 
+/// An order to a job, with what it plans. Computes in O(1).
 pub fn order_row(plan: Option<JobPlan>) -> MailRow
     ensures { result ≡ order_row plan }
 {
@@ -141,13 +142,15 @@ pub fn order_row(plan: Option<JobPlan>) -> MailRow
     }
 }
 
+/// What becomes of the claim where its run is gone, by whether the startd keeps the claim. Computes
+/// in O(1).
 pub fn fate_of_gone(kept: bool) -> Fate
     ensures { result ≡ fate_of_gone kept }
 {
     if kept { Fate::Stays } else { Fate::Goes }
 }
 
-/// The claim of a run that is over.
+/// The claim of a run that is over. Computes in O(claims), without memory.
 #[tactic(auto, unfolding(crate::specs::MailTable::after_fate))]
 pub fn settle_claim(claims: &mut Vec<KeptClaim>, claim: ClaimNo, fate: Fate)
     ensures { claims.new.items ≡ after_fate fate claim claims.old.items }

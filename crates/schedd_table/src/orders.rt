@@ -7,7 +7,7 @@ use crate::places::JobPlace;
 use claim_id::JobId;
 use schedd_plan::{JobPlan, JobStatus, Reason};
 
-/// The job is to be removed.
+/// The job is to be removed. Computes in O(1), as do the other orders.
 pub fn remove_plan(place: JobPlace, job: JobId) -> Option<JobPlan>
     ensures { result ≡ remove_plan place job }
 {

@@ -24,20 +24,21 @@ pub enum JobPlace {
     Under { status: JobStatus },
 }
 
-/// The ad of a job.
+/// The ad of a job. Computes as `Queue::get`.
 pub fn ad_of(queue: &Queue, job: JobId) -> Option<&Ad>
     ensures { option_copied result ≡ ad_at (Proc job) queue.now }
 {
     queue.get(&Key::Proc(job))
 }
 
-/// Whether a job was left by an earlier boot.
+/// Whether a job was left by an earlier boot. Computes in O(jobs left), without memory.
 pub fn is_left(left: &[JobId], job: JobId) -> bool
     ensures { result ≡ is_left job left.now }
 {
     left.iter().any(|other| *other == job)
 }
 
+/// Where a job of the queue stands. Computes as `Queue::get` and `is_left`.
 pub fn job_place(queue: &Queue, left: &[JobId], job: JobId) -> JobPlace
     ensures { result ≡ job_place queue.now left.now job }
 {
@@ -47,7 +48,7 @@ pub fn job_place(queue: &Queue, left: &[JobId], job: JobId) -> JobPlace
     }
 }
 
-/// Where the ad of a job says that it stands.
+/// Where the ad of a job says that it stands. Computes as `Ad::get`.
 pub fn place_in(ad: &Ad, left: bool) -> JobPlace
     ensures { result ≡ place_in left ad.now }
 {
@@ -71,7 +72,7 @@ fn kind_place(kind: Option<JobKind>, left: bool, status: JobStatus) -> JobPlace
     }
 }
 
-/// Whether a job is idle.
+/// Whether a job is idle. Computes as `Queue::get`.
 pub fn is_idle_at(queue: &Queue, job: JobId) -> bool
     ensures { result ≡ is_idle_at queue.now job }
 {
@@ -91,6 +92,7 @@ fn is_idle(kind: Option<JobKind>) -> bool
 }
 
 /// What becomes of a job that is let go: held or removed where it is marked so, else idle.
+/// Computes as `Queue::get`.
 pub fn let_go(queue: &Queue, job: JobId) -> JobPlan
     ensures { result ≡ let_go queue.now job }
 {
@@ -100,6 +102,7 @@ pub fn let_go(queue: &Queue, job: JobId) -> JobPlan
     }
 }
 
+/// The same, by the job's ad. Computes as `Ad::get`.
 pub fn let_go_ad(job: JobId, ad: &Ad) -> JobPlan
     ensures { result ≡ let_go_ad job ad.now }
 {

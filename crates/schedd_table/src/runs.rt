@@ -49,28 +49,28 @@ fn is_under(kept: &KeptRun, no: ClaimNo) -> bool
     kept.claim.no == no
 }
 
-/// The place of a run, by its number.
+/// The place of a run, by its number. Computes in O(runs), without memory.
 pub fn place_of_run(runs: &[KeptRun], run: RunNo) -> Option<usize>
     ensures { result ≡ place_of_run run runs.now }
 {
     runs.iter().position(|kept| is_run(kept, run))
 }
 
-/// The place of a job's run.
+/// The place of a job's run. Computes in O(runs), without memory.
 pub fn place_of_job(runs: &[KeptRun], job: JobId) -> Option<usize>
     ensures { result ≡ place_of_job job runs.now }
 {
     runs.iter().position(|kept| is_of_job(kept, job))
 }
 
-/// Whether a job is under the claim.
+/// Whether a job is under the claim. Computes in O(runs), without memory.
 pub fn has_job_under(runs: &[KeptRun], no: ClaimNo) -> bool
     ensures { result ≡ has_job_under no runs.now }
 {
     runs.iter().any(|kept| is_under(kept, no))
 }
 
-/// Whether a job comes before another.
+/// Whether a job comes before another. Computes in O(1).
 pub fn is_before(job: JobId, other: JobId) -> bool
     ensures { result ≡ is_before job other }
 {
@@ -102,7 +102,7 @@ fn place_for(runs: &[KeptRun], job: JobId) -> usize
     }
 }
 
-/// One more run, in order of the jobs. An error leaves the list as it was.
+/// One more run, in order of the jobs. An error leaves the list as it was. Computes in O(runs).
 pub fn add_run(runs: &mut Vec<KeptRun>, run: KeptRun) -> Result<(), Memory>
     ensures added { IfOk result (λ _. runs.new.items ≡ with_run run runs.old.items) }
     ensures kept { OnErr result (runs.new.items ≡ runs.old.items) }
@@ -112,7 +112,7 @@ pub fn add_run(runs: &mut Vec<KeptRun>, run: KeptRun) -> Result<(), Memory>
     Ok(())
 }
 
-/// The run of a place goes.
+/// The run of a place goes. Computes in O(runs).
 pub fn remove_run(runs: &mut Vec<KeptRun>, place: usize)
     ensures { runs.new.items ≡ runs_without place runs.old.items }
 {
@@ -122,6 +122,7 @@ pub fn remove_run(runs: &mut Vec<KeptRun>, place: usize)
 }
 
 /// The run of a place was alive at a reading; `found` says whether it still counts as found.
+/// Computes in O(1).
 pub fn set_alive(runs: &mut Vec<KeptRun>, place: usize, alive: u64, found: bool)
     ensures { runs.new.items ≡ with_alive place alive found runs.old.items }
 {

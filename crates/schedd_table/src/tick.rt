@@ -36,7 +36,7 @@ pub enum TickLine {
     Nothing,
 }
 
-/// Whether a time has come: so many seconds after a reading.
+/// Whether a time has come: so many seconds after a reading. Computes in O(1).
 pub fn is_after(since: u64, seconds: u64, reading: u64) -> bool
     ensures { result ≡ is_after since seconds reading }
 {
@@ -76,7 +76,7 @@ fn lease_seconds(alloc: Global, ad: &Ad, settings: &Settings, reading: u64) -> R
 }
 
 /// When a lease of the job that begins at a reading ends. Memory too where that is 2 to the 64 or
-/// more.
+/// more. Evaluates JobLeaseDuration.
 #[tactic(auto, unfolding(crate::specs::TickTable::lease_end))]
 pub fn lease_end(alloc: Global, ad: &Ad, settings: &Settings, reading: u64) -> Result<u64, Memory>
     ensures { IfOk result (λ until. until ≡ lease_end ad.now settings.now reading) }
@@ -113,6 +113,7 @@ fn is_quiet(run: &KeptRun, settings: &Settings, reading: u64) -> bool
     run.found || is_after(run.alive, settings.alive_interval, reading)
 }
 
+/// What is due of a run at a tick. Computes as `Queue::get`.
 #[tactic(auto, unfolding(crate::specs::TickTable::run_line))]
 pub fn run_line(run: &KeptRun, queue: &Queue, settings: &Settings, reading: u64) -> RunLine
     ensures { result ≡ run_line run.now queue.now settings.now reading }
@@ -153,7 +154,7 @@ fn is_run_due(run: &KeptRun, queue: &Queue, settings: &Settings, reading: u64) -
     is_run_act(run_line(run, queue, settings, reading))
 }
 
-/// The place of the first run of which something is due.
+/// The place of the first run of which something is due. Computes in O(runs times log jobs).
 pub fn due_run(runs: &[KeptRun], queue: &Queue, settings: &Settings, reading: u64) -> Option<usize>
     ensures { result ≡ due_run runs.now queue.now settings.now reading }
 {
@@ -172,6 +173,7 @@ pub enum ClaimLine {
     Nothing,
 }
 
+/// What is due of a claim at a tick. Computes in O(log jobs + runs).
 #[tactic(auto, unfolding(crate::specs::TickTable::claim_line))]
 pub fn claim_line(
     claim: &KeptClaim,
@@ -243,7 +245,8 @@ fn is_claim_due(
     is_claim_act(claim_line(claim, runs, queue, settings, reading))
 }
 
-/// The place of the first claim of which something is due.
+/// The place of the first claim of which something is due. Computes in O(claims times (log jobs +
+/// runs)).
 pub fn due_claim(
     claims: &[KeptClaim],
     runs: &[KeptRun],
