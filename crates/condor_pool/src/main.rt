@@ -19,30 +19,48 @@ use std::sync::Wait;
 use std::thread::Threads;
 use std::{env, io};
 
-fn main(rt: HostRuntime) -> io::Result<ExitCode> {
+fn main(rt: HostRuntime) -> ExitCode {
     let alloc = rt.alloc();
-    let words = words(&rt)?;
-    match lone_question(words.as_slice()) {
-        Some(question) => answer(&rt, alloc, question),
-        None => run(&rt, &rt, alloc, words.as_slice()),
-    }
+    let status = match words(&rt) {
+        Ok(words) => match lone_question(words.as_slice()) {
+            Some(question) => answer(&rt, alloc, question),
+            None => run(&rt, &rt, alloc, words.as_slice()),
+        },
+        Err(error) => unread_words(&error),
+    };
+    print_line(&rt, alloc, &status);
+    ExitCode::from(status.number())
 }
 
 // Prints what a lone word asks for.
-fn answer(rt: &impl Print, alloc: Global, question: Question) -> io::Result<ExitCode> {
-    let text = text_of(alloc, question)?;
-    print!(rt; "{text}")?;
-    Ok(ExitCode::SUCCESS)
+fn answer(rt: &impl Print, alloc: Global, question: Question) -> Status {
+    match text_of(alloc, question) {
+        Ok(text) => match print!(rt; "{text}") {
+            Ok(()) => Status::Done,
+            Err(_) => Status::OutFault,
+        },
+        Err(_) => Status::Memory,
+    }
 }
 
-// Runs a pool on the system's parts, and says how it ended. The first handle may wait.
+// How a program ends whose words can't be had: a word that isn't UTF-8 is of no form.
+fn unread_words(error: &io::Error) -> Status {
+    match error.kind() {
+        io::ErrorKind::OutOfMemory => Status::Memory,
+        _ => Status::Usage,
+    }
+}
+
+// Runs a pool on the system's parts. The first handle may wait.
 fn run<R: Threads + Wait + Sync + Clock>(
     rt: &R,
     system: &HostRuntime,
     alloc: Global,
     words: &[String],
-) -> io::Result<ExitCode> {
-    let spawners = idle_spawners(alloc, system)?;
+) -> Status {
+    let Ok(spawners) = idle_spawners(alloc, system) else {
+        return Status::Memory;
+    };
     let clock = SystemClock::new(system);
     let mut out = StdSink::new(io::writer(system));
     let Ran {
@@ -62,8 +80,7 @@ fn run<R: Threads + Wait + Sync + Clock>(
         secret_key(system),
         &mut out,
     );
-    print_line(system, alloc, &status);
-    Ok(ExitCode::from(status.number()))
+    status
 }
 
 // Prints the line of a status; one that cannot be made or printed leaves the status as it is.
