@@ -7,7 +7,7 @@ use ad_value::{Copied, Memory, Text};
 use std::alloc::Global;
 
 /// One change of the queue. Contracts see it as an `Operation`.
-#[derive(Debug, Drop)]
+#[derive(Debug)]
 pub enum Op {
     /// A new ad, without attributes. The two words are those that the log keeps beside the key.
     NewAd { key: Key, kind: Text, other: Text },
@@ -17,6 +17,28 @@ pub enum Op {
     SetAttr { key: Key, name: Text, expr: Expr },
     /// The ad has nothing under this name.
     DeleteAttr { key: Key, name: Text },
+}
+
+impl Drop for Op {
+    fn drop(self) {
+        match self {
+            Op::NewAd {
+                key: _,
+                kind: _kind,
+                other: _other,
+            } => {}
+            Op::DestroyAd { key: _ } => {}
+            Op::SetAttr {
+                key: _,
+                name: _name,
+                expr: _expr,
+            } => {}
+            Op::DeleteAttr {
+                key: _,
+                name: _name,
+            } => {}
+        }
+    }
 }
 
 impl Op {

@@ -30,9 +30,14 @@ pub(crate) enum Change {
 
 /// What a transaction changes: an ad, or none, for each key that it names. It has the memory that
 /// the change takes. Contracts see the list of these keys and ads.
-#[derive(Drop)]
 pub struct Prepared {
     changes: Vec<Change>,
+}
+
+impl Drop for Prepared {
+    fn drop(self) {
+        let Prepared { changes: _changes } = self;
+    }
 }
 
 impl Model for Prepared {

@@ -28,7 +28,6 @@ use std::marker::Model;
 use std::ops::Bound;
 
 /// The job queue: a map from keys to ads. Contracts see the list of keys and ads, in order of key.
-#[derive(Drop)]
 pub struct Queue {
     ads: OrderedMap<Key, Ad>,
     kinds: Kinds,
@@ -36,6 +35,17 @@ pub struct Queue {
     periodic: KeySet,
     // The idle jobs by what they ask for.
     asked: AskedSet,
+}
+
+impl Drop for Queue {
+    fn drop(self) {
+        let Queue {
+            ads: _ads,
+            kinds: _kinds,
+            periodic: _periodic,
+            asked: _asked,
+        } = self;
+    }
 }
 
 impl Model for Queue {

@@ -7,9 +7,15 @@ use std::alloc::Global;
 use std::marker::Model;
 
 /// Operations that stand or fall together. Contracts see the list of `Operation`s.
-#[derive(Debug, Drop)]
+#[derive(Debug)]
 pub struct Tx {
     ops: Vec<Op>,
+}
+
+impl Drop for Tx {
+    fn drop(self) {
+        let Tx { ops: _ops } = self;
+    }
 }
 
 /// A list of transactions.
