@@ -9,3 +9,4 @@ pub mod Results
 pub mod Refusals
 pub mod Beyond
 pub mod Opened
+pub mod Recovery

@@ -1,22 +1,21 @@
 -- What a log begins with.
-use Rattle.std.proofs.Common.{◌≡◌, ◌⊎◌, inl, inr, ℕ, suc, ◌+◌, ◌-◌, ◌<◌, ◌≤◌, ◌^◌, min, true, Bool, List, [], ◌∷◌, ◌++◌, length, take, Option, Some, None, refl, ap, sym, ◌∙◌, subst, arith}
+use Rattle.std.proofs.Common.{◌≡◌, ℕ, ◌<◌, ◌≤◌, ◌^◌, true, Bool, List, [], ◌∷◌, ◌++◌, length, take, Option, Some, None, refl, ap, sym, ◌∙◌, subst, arith}
 use Rattle.pool_outer.specs.Files.{IsImage}
 use Rattle.pool_outer.specs.declared.limit.Which.TheVariants.{Machines, Slots, Jobs, Attributes, LogLine, Input, Bytes, Roll, Events, Users, Boots}
-use Rattle.queue_tx.specs.Operations.{Operation}
 use Rattle.queue_tx.specs.Queues.{KeyedAds}
 use Rattle.queue_record.specs.declared.error.RecordError.{RecordError}
 use Rattle.queue_record.specs.declared.error.RecordError.TheVariants as line
 use Rattle.queue_record.specs.declared.reader.ReadLog.{ReadLog}
-use Rattle.queue_record.specs.Reading.{Reading, start, fed}
+use Rattle.queue_record.specs.Reading.{start, fed}
 use Rattle.queue_log.specs.declared.error.LogError.{LogError}
 use Rattle.queue_log.specs.declared.error.LogError.TheVariants.{BadRecord, Limit, Disk, Memory}
 use Rattle.queue_log.specs.declared.recover.Opening.{Opening}
 use Rattle.queue_log.specs.Files.{IsReadOf, IsReadRefusal}
 use Rattle.queue_log.specs.Logged.{IsTooMany}
-use Rattle.queue_log.specs.Logs.{IsOpened, IsRecovered, IsRecoverRefused, IsWhole}
+use Rattle.queue_log.specs.Logs.{IsOpened, IsRecoverRefused, IsWhole}
 use Rattle.queue_log.specs.NewLog.{new_log_text, new_log_tx, opening_of}
 use Rattle.queue_log.specs.Stands.{IsSettled, Stands, bad_line, line_of}
-use Rattle.queue_log.proofs.Readings.{cut_settles, take_length, IsCut}
+use Rattle.queue_log.proofs.Readings.{cut_settles, take_length}
 use Rattle.queue_log.proofs.Settled.{image_whole, settled_stands}
 
 none_refused : (o : Option RecordError) → line_of o ≡ None → o ≡ None
@@ -68,10 +67,7 @@ module _ (bytes : List ℕ) (small : length bytes < 2 ^ 64) (log : ReadLog) (rea
         whole = record { settled = record { at_rest = w.settled.at_rest; listed = w.settled.listed ∙ sym list; queued = w.settled.queued ∙ sym queue }; durable = w.durable };
       }
 
-  -- what a stop leaves of it, cut or not
-  pub image_before : (image : List ℕ) (solid : ℕ) → length bytes ≤ solid → IsImage solid bytes image → Stands (fed start bytes).list image
-  image_before image solid le i = subst (λ z. Stands (fed start bytes).list z) (sym (image_whole bytes image solid le i)) (record { good = read.good; listed = refl })
-
+  -- what a stop leaves of it once it is cut
   pub image_after : (new image : List ℕ) (solid : ℕ) → new ≡ take log.whole bytes → log.whole ≤ solid → IsImage solid new image → Stands (fed start bytes).list image
   image_after new image solid is durable i =
       let w = cut_whole new solid is durable in

@@ -1,5 +1,6 @@
 -- What stands behind the last whole transaction counts for nothing.
 use Rattle.std.proofs.Common.{◌≡◌, ◌⊎◌, inl, inr, ℕ, zero, suc, ◌+◌, ◌-◌, ◌<◌, ◌≤◌, ◌^◌, ◌==◌, min, Bool, true, false, cond, ltb, List, [], ◌∷◌, ◌++◌, length, take, drop, Option, Some, None, Result, Ok, Err, refl, ap, sym, ◌∙◌, subst, arith, append_assoc, length-append}
+use Rattle.std.proofs.lemmas.List.{append-nil}
 use Rattle.queue_tx.specs.declared.error.ApplyError.{ApplyError}
 use Rattle.queue_tx.specs.Operations.{Operation}
 use Rattle.queue_tx.specs.Queues.{KeyedAds, queue_after}
@@ -180,3 +181,68 @@ prefix_stands bytes image small good front long =
     let parts : bytes ≡ image ++ rest = take_and_drop (length image) bytes ∙ ap (λ (z : List ℕ). z ++ rest) (sym front) in
     let whole : fed start bytes ≡ fed (fed start image) rest = ap (fed start) parts ∙ fed_append start image rest in
     prefix_by bytes image rest small good parts long (goes (fed start image) rest (ap (λ (r : Reading). r.refusal) (sym whole) ∙ good))
+
+-- ---- no byte takes a transaction away
+
+record Grows (r s : Reading) : Type 0 where
+  more : List (List Operation)
+  listed : s.list ≡ r.list ++ more
+
+stays_short : (r s : Reading) → s.list ≡ r.list → Grows r s
+stays_short r s same = record { more = []; listed = same ∙ sym (append-nil r.list) }
+
+takes_grows : (r : Reading) (ops : List Operation) (first : ℕ) (res : Result KeyedAds ApplyError) → (takes_in r ops first res).refusal ≡ None → Grows r (takes_in r ops first res)
+takes_grows r ops first (Err f) good = absurd (cc good)
+takes_grows r ops first (Ok q) good = record { more = ops ∷ []; listed = refl }
+
+entry_grows : (r : Reading) (o : Option (List Operation)) (e : Option Entry) → (after_entry r o e).refusal ≡ None → Grows r (after_entry r o e)
+entry_grows r o None good = absurd (cc good)
+entry_grows r None (Some begins) good = stays_short r (after_entry r None (Some begins)) refl
+entry_grows r (Some ops) (Some begins) good = absurd (cc good)
+entry_grows r None (Some ends) good = absurd (cc good)
+entry_grows r (Some ops) (Some ends) good = takes_grows r ops (counted r.begun 1) (queue_after r.queue ops) good
+entry_grows r None (Some (does p)) good = takes_grows r (p ∷ []) r.line (queue_after r.queue (p ∷ [])) good
+entry_grows r (Some ops) (Some (does p)) good = stays_short r (after_entry r (Some ops) (Some (does p))) refl
+entry_grows r None (Some (stamped n)) good = stays_short r (after_entry r None (Some (stamped n))) refl
+entry_grows r (Some ops) (Some (stamped n)) good = absurd (cc good)
+
+line_grows : (r : Reading) (t : Bool) → (cond t (refused (TooLong r.line)) (after_entry r r.opened (entry_at r.part))).refusal ≡ None
+    → Grows r (cond t (refused (TooLong r.line)) (after_entry r r.opened (entry_at r.part)))
+line_grows r true good = absurd (cc good)
+line_grows r false good = entry_grows r r.opened (entry_at r.part) good
+
+newline_grows : (r : Reading) (b : ℕ) (t : Bool) → (cond t (after_line r) (in_line r b)).refusal ≡ None → Grows r (cond t (after_line r) (in_line r b))
+newline_grows r b true good = line_grows r (ltb 16384 (length r.part)) good
+newline_grows r b false good = stays_short r (in_line r b) refl
+
+byte_grows : (o : Option RecordError) (r : Reading) (b : ℕ) → (after_byte o r b).refusal ≡ None → Grows r (after_byte o r b)
+byte_grows None r b good = newline_grows r b (b == 10) good
+byte_grows (Some e) r b good = stays_short r r refl
+
+grows : (r : Reading) (bs : List ℕ) → (fed r bs).refusal ≡ None → Grows r (fed r bs)
+grows r [] good = stays_short r r refl
+grows r (b ∷ bs) good =
+    let s = after_byte r.refusal r b in
+    let here = byte_grows r.refusal r b (good_before s bs good) in
+    let rest = grows s bs good in
+    record { more = here.more ++ rest.more; listed = rest.listed ∙ ap (λ (l : List (List Operation)). l ++ rest.more) here.listed ∙ append_assoc r.list here.more rest.more }
+
+front_of_one : (txs more : List (List Operation)) (tx : List Operation) → tx ∷ [] ≡ txs ++ more → (txs ≡ []) ⊎ (txs ≡ tx ∷ [])
+front_of_one [] more tx h = inl refl
+front_of_one (t ∷ []) more tx h = inr (sym (ap (take 1) h))
+front_of_one (t ∷ u ∷ txs) more tx h = let e = ap length h in absurd (omega arith)
+
+-- a prefix of bytes that say one transaction says it, or none
+pub one_or_none : (bytes image : List ℕ) (tx : List Operation) → (fed start bytes).refusal ≡ None → (fed start bytes).list ≡ tx ∷ [] → image ≡ take (length image) bytes → Stands [] image ⊎ Stands (tx ∷ []) image
+one_or_none bytes image tx good one front =
+    let rest = drop (length image) bytes in
+    let parts : bytes ≡ image ++ rest = take_and_drop (length image) bytes ∙ ap (λ (z : List ℕ). z ++ rest) (sym front) in
+    let whole : fed start bytes ≡ fed (fed start image) rest = ap (fed start) parts ∙ fed_append start image rest in
+    let good' : (fed (fed start image) rest).refusal ≡ None = ap (λ (r : Reading). r.refusal) (sym whole) ∙ good in
+    let fine = good_before (fed start image) rest good' in
+    let g = grows (fed start image) rest good' in
+    by fine (front_of_one (fed start image).list g.more tx (sym one ∙ ap (λ (r : Reading). r.list) whole ∙ g.listed))
+  where
+    by : (fed start image).refusal ≡ None → ((fed start image).list ≡ []) ⊎ ((fed start image).list ≡ tx ∷ []) → Stands [] image ⊎ Stands (tx ∷ []) image
+    by fine (inl none) = inl (record { good = fine; listed = none })
+    by fine (inr all) = inr (record { good = fine; listed = all })

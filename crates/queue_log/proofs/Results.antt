@@ -1,5 +1,5 @@
 -- Facts of a result, one from another.
-use Rattle.std.proofs.Common.{Result, Ok, Err, OnOk}
+use Rattle.std.proofs.Common.{Result, Ok, Err, OnOk, OnErr}
 
 module _ {T E : Type 0} where
   pub on_ok2 : {P Q R : Type 0} (r : Result T E) → OnOk r P → OnOk r Q → (P → Q → R) → OnOk r R
@@ -9,3 +9,11 @@ module _ {T E : Type 0} where
   pub on_ok : {P R : Type 0} (r : Result T E) → OnOk r P → (P → R) → OnOk r R
   on_ok (Ok x) p f = f p
   on_ok (Err e) p f = tt
+
+  pub on_err : {P R : Type 0} (r : Result T E) → OnErr r P → (P → R) → OnErr r R
+  on_err (Ok x) p f = tt
+  on_err (Err e) p f = f p
+
+  pub at_err : {P : Type 0} (r : Result T E) → P → OnErr r P
+  at_err (Ok x) p = tt
+  at_err (Err e) p = p

@@ -1,10 +1,11 @@
 -- A log and its file.
-use Rattle.std.specs.Prelude.{◌≡◌, ◌⊎◌, ◌≤◌, ◌<◌, ℕ, Bool, true, List, [], ◌∷◌, ◌++◌, length, take, Option, Some, None, Ok, IsSome}
+use Rattle.std.specs.Prelude.{◌≡◌, ◌⊎◌, ◌≤◌, ◌<◌, ℕ, Bool, true, List, [], ◌∷◌, ◌++◌, length, take, Option, Some, None, Result, Ok, Err, IsSome}
 use Rattle.pool_outer.specs.Cause.{Rose}
-use Rattle.pool_outer.specs.Files.{Contents, Lengths, Leaves, Names, bytes_in}
+use Rattle.pool_outer.specs.Files.{Contents, Images, Lengths, Leaves, bytes_in}
 use Rattle.pool_outer.specs.declared.limit.Which.TheVariants.{LogLine, Roll}
 use Rattle.receipt_roll.specs.declared.roll.TheConstants.{MAX_ITEMS}
 use Rattle.receipt_roll.specs.Values.{RollMark, ReceiptValue}
+use Rattle.solid_file.specs.Moments.{LeavesOnly}
 use Rattle.queue_tx.specs.Operations.{Operation}
 use Rattle.queue_tx.specs.Printable.{IsPrintable}
 use Rattle.queue_tx.specs.Queues.{KeyedAds, queue_after}
@@ -15,7 +16,7 @@ use Rattle.queue_log.specs.declared.error.LogError.TheVariants.{BadRecord, Limit
 use Rattle.queue_log.specs.declared.log.Halt.{Halt}
 use Rattle.queue_log.specs.declared.recover.Opening.{Opening}
 use Rattle.queue_log.specs.NewLog.{new_log_text, opening_of}
-use Rattle.queue_log.specs.Stands.{Stands, IsBeforeOrAfter, IsSettled, bad_line}
+use Rattle.queue_log.specs.Stands.{Stands, StandsAs, IsBeforeOrAfter, IsSettled, bad_line}
 
 -- a log as its callers see it
 pub record LogValue (D : Type 0) : Type 0 where
@@ -123,7 +124,26 @@ pub record IsRecovered (old new : List ℕ) (reading : ℕ) (list : List (List O
 -- while it does so, the file stands for what it stood for, or for what recovery makes of it
 abbrev pub StandsForOpening : List ℕ → ℕ → List ℕ → Type 0
 StandsForOpening old reading image =
-    Stands (fed start old).list image ⊎ Stands (fed start (opening_of old reading)).list image
+    StandsAs old image ⊎ StandsAs (opening_of old reading) image
+
+-- A stop at any moment of a recovery leaves of the file what it might have left before, or what
+-- stands for that.
+abbrev pub LeavesOpening
+    : {D : Type 0} → (D → Contents) → (D → Lengths) → (D → ℕ) → (D → Images) → List ℕ → ℕ → D → D
+    → Type 0
+LeavesOpening file solid moment left_since name reading old new =
+    LeavesOnly moment left_since name old new (λ image. Leaves (file old) (solid old) name image
+    ⊎ StandsForOpening (bytes_in (file old name)) reading image)
+
+-- where a log can't be recovered, its file is as it was, or has a prefix of a new log's text
+abbrev pub IsUncut : List ℕ → List ℕ → ℕ → Type 0
+IsUncut [] new reading = (n : ℕ) × (new ≡ take n (new_log_text reading))
+IsUncut (b ∷ old) new reading = new ≡ b ∷ old
+
+-- the store that a recovery gives back
+abbrev pub recovered_store : {D : Type 0} → Result (LogValue D) (D × LogError) → D
+recovered_store (Ok log) = log.store
+recovered_store (Err p) = p.0
 
 -- the same of what a log begins with, whose file is then whole
 pub record IsOpened (old new : List ℕ) (solid reading : ℕ) (opening : Opening) : Type 0 where

@@ -34,3 +34,8 @@ line_of (Some Memory) = Some 0
 -- the first bad line of the bytes of a log
 abbrev pub bad_line : List ℕ → Option ℕ
 bad_line bytes = line_of (fed start bytes).refusal
+
+-- other bytes of a log say the same: the same transactions, and the same first bad line or none
+pub record StandsAs (bytes image : List ℕ) : Type 0 where
+  pub same_line : bad_line image ≡ bad_line bytes
+  pub listed : (fed start image).list ≡ (fed start bytes).list

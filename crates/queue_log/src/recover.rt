@@ -1,9 +1,10 @@
-ghost use Rattle.std.specs.Prelude.{◌≡◌, ◌<◌, ◌≤◌, ℕ, List, true, None, Some, length, IfOk, IfErr, OnOk};
+ghost use Rattle.std.specs.Prelude.{◌≡◌, ◌<◌, ◌≤◌, ℕ, List, true, None, Some, length, IfOk, IfErr, OnOk, OnErr};
 ghost use Rattle.std.specs.Option.{option_map};
 ghost use Rattle.pool_outer.specs.declared.clock.TheConstants.{LAST_READING};
 ghost use Rattle.pool_outer.specs.Files.{bytes_in};
+ghost use Rattle.solid_file.specs.Moments.{LeavesOnly};
 ghost use Rattle.queue_log.specs.Logged.{IsLogged, IsTooMany};
-ghost use Rattle.queue_log.specs.Logs.{IsOpened, IsRecovered, IsRecoverRefused};
+ghost use Rattle.queue_log.specs.Logs.{IsOpened, IsRecovered, IsRecoverRefused, IsUncut, LeavesOpening, StandsForOpening, recovered_store};
 
 use crate::error::LogError;
 use crate::log::Log;
@@ -41,14 +42,28 @@ impl<D: Store> Log<D> {
     ) -> Result<Log<D>, (D, LogError)>
         requires { reading ≤ LAST_READING }
 
+        // What it gives.
         ensures named { IfOk result (λ log. log.name ≡ name.now) }
         ensures goes_on { IfOk result (λ log. log.halt ≡ None) }
         ensures recovered { D.tells store ≡ true → IfOk result (λ log. IsRecovered
             (bytes_in (D.file store name.now)) (bytes_in (D.file log.store name.now)) reading
             log.list log.queue log.sequence) }
-        ensures told { IfOk result (λ log. D.tells log.store ≡ D.tells store) }
+        ensures told { D.tells (recovered_store result) ≡ D.tells store }
+
+        // When it is refused, and what is then left.
         ensures refused { IfErr result (λ p. IsRecoverRefused (D.tells store)
             (bytes_in (D.file store name.now)) (D.faults store) (D.faults p.0) p.1) }
+        ensures uncut { D.tells store ≡ true → IfErr result (λ p. IsUncut
+            (bytes_in (D.file store name.now)) (bytes_in (D.file p.0 name.now)) reading) }
+
+        // What a stop leaves of the file, at any moment of the call.
+        ensures any_moment { D.tells store ≡ true
+            → length (bytes_in (D.file store name.now)) ≤ D.solid store name.now
+            → LeavesOnly D.moment D.left_since name.now store (recovered_store result)
+            (StandsForOpening (bytes_in (D.file store name.now)) reading) }
+        ensures any_moment_unsynced { D.tells store ≡ true
+            → LeavesOpening D.file D.solid D.moment D.left_since name.now reading store
+            (recovered_store result) }
     {
         match begin_or_resume(alloc, &mut store, name, reading) {
             Ok(opening) => {
@@ -82,6 +97,10 @@ fn begin_or_resume<D: Store>(
         (D.solid store.new name.now) reading) }
     ensures refused { IfErr result (IsRecoverRefused (D.tells store.old)
         (bytes_in (D.file store.old name.now)) (D.faults store.old) (D.faults store.new)) }
+    ensures uncut { D.tells store.old ≡ true → OnErr result (IsUncut
+        (bytes_in (D.file store.old name.now)) (bytes_in (D.file store.new name.now)) reading) }
+    ensures any_moment { D.tells store.old ≡ true
+        → LeavesOpening D.file D.solid D.moment D.left_since name.now reading store.old store.new }
     ensures known { OnOk result (D.known store.new name.now ≡ true) }
     ensures told { D.tells store.new ≡ D.tells store.old }
 {
@@ -112,6 +131,10 @@ fn resume<D: Store>(
         (D.solid store.new name.now) reading opening) }
     ensures refused { IfErr result (IsRecoverRefused (D.tells store.old)
         (bytes_in (D.file store.old name.now)) (D.faults store.old) (D.faults store.new)) }
+    ensures uncut { D.tells store.old ≡ true → OnErr result
+        (bytes_in (D.file store.new name.now) ≡ bytes_in (D.file store.old name.now)) }
+    ensures any_moment { D.tells store.old ≡ true → (reading : ℕ)
+        → LeavesOpening D.file D.solid D.moment D.left_since name.now reading store.old store.new }
     ensures known { (other : List ℕ) → D.known store.old other ≡ true
         → D.known store.new other ≡ true }
     ensures told { D.tells store.new ≡ D.tells store.old }
@@ -145,6 +168,10 @@ fn begin<D: Store>(
         (D.solid store.new name.now) reading) }
     ensures refused { IfErr result (IsRecoverRefused (D.tells store.old)
         (bytes_in (D.file store.old name.now)) (D.faults store.old) (D.faults store.new)) }
+    ensures uncut { D.tells store.old ≡ true → OnErr result (IsUncut
+        (bytes_in (D.file store.old name.now)) (bytes_in (D.file store.new name.now)) reading) }
+    ensures any_moment { D.tells store.old ≡ true
+        → LeavesOpening D.file D.solid D.moment D.left_since name.now reading store.old store.new }
     ensures known { OnOk result (D.known store.new name.now ≡ true) }
     ensures told { D.tells store.new ≡ D.tells store.old }
 {
