@@ -5,3 +5,4 @@ pub mod Writable
 pub mod Logged
 pub mod Files
 pub mod Logs
+pub mod Reattaching

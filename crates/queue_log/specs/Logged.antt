@@ -1,5 +1,5 @@
 -- What a log has logged, apart from its file.
-use Rattle.std.specs.Prelude.{◌≡◌, ◌<◌, ◌≤◌, ℕ, ◌∷◌, [], ◌++◌, List, length, Option, None, Some, Ok, IsSome}
+use Rattle.std.specs.Prelude.{◌≡◌, ◌<◌, ◌≤◌, ℕ, ◌∷◌, [], ◌++◌, List, length, Option, None, Some, Ok, IsSome, IfSome}
 use Rattle.pool_outer.specs.declared.limit.Which.TheVariants.{LogLine, Roll}
 use Rattle.receipt_roll.specs.declared.roll.TheConstants.{MAX_ITEMS}
 use Rattle.receipt_roll.specs.Values.{RollMark, ReceiptValue}
@@ -51,20 +51,42 @@ IsTooMany list (Limit Roll) = MAX_ITEMS < length list
 IsTooMany list Memory = Unit {0}
 IsTooMany list e = ⊥
 
--- a list that was read is neither the roll's nor that with a further transaction
+-- ---- a list that was read
+
+-- it is the roll's with a further transaction
+abbrev pub HasOneMore : List (List Operation) → List (List Operation) → Type 0
+HasOneMore list roll = (tx : List Operation) × (list ≡ roll ++ tx ∷ [])
+
+-- it is neither the roll's nor that with a further transaction
 pub record IsOtherList (list roll : List (List Operation)) : Type 0 where
   pub not_same : list ≡ roll → ⊥
-  pub not_more : (tx : List Operation) → list ≡ roll ++ tx ∷ [] → ⊥
+  pub not_more : HasOneMore list roll → ⊥
 
--- what a list that was read has beyond the roll
-abbrev pub IsBeyond : List (List Operation) → List (List Operation) → Option More → Type 0
-IsBeyond list roll None = list ≡ roll
-IsBeyond list roll (Some more) = (list ≡ roll ++ more.tx ∷ []) × (more.copy ≡ more.tx)
+-- a roll's list, and the transaction that was read beyond it, where there is one
+abbrev pub with_more : List (List Operation) → Option More → List (List Operation)
+with_more roll None = roll
+with_more roll (Some more) = roll ++ more.tx ∷ []
 
--- why that can't be had
+-- what a list that was read, which builds that queue, has beyond the roll
+abbrev pub IsBeyond
+    : List (List Operation) → KeyedAds → List (List Operation) → Option More → Type 0
+IsBeyond list queue roll more =
+    (list ≡ with_more roll more) × IfSome more (λ m. m.queue ≡ queue)
+
+-- it can be taken in: it follows on these transactions and their queue, and the roll has room
+pub record IsNext (list : List (List Operation)) (queue : KeyedAds) (spare : ℕ) (more : More)
+    : Type 0 where
+  pub logged : IsLogged (list ++ more.tx ∷ []) more.queue
+  pub applies : queue_after queue more.tx ≡ Ok more.queue
+  pub copied : more.copy ≡ more.tx
+  pub room : 0 < spare
+  pub within : length list < MAX_ITEMS
+
+-- why what is beyond the roll can't be had
 abbrev pub IsBeyondRefused
     : List (List Operation) → List (List Operation) → LogError → Type 0
 IsBeyondRefused list roll (BadRecord line) = (line ≡ 0) × IsOtherList list roll
-IsBeyondRefused list roll (Limit Roll) = MAX_ITEMS ≤ length roll
+IsBeyondRefused list roll (Limit which) =
+    (which ≡ Roll) × HasOneMore list roll × (MAX_ITEMS ≤ length roll)
+IsBeyondRefused list roll Disk = ⊥
 IsBeyondRefused list roll Memory = Unit {0}
-IsBeyondRefused list roll e = ⊥

@@ -163,32 +163,6 @@ IsRecoverRefused tells bytes before now (Limit which) = ⊥
 IsRecoverRefused tells bytes before now Disk = Rose before now
 IsRecoverRefused tells bytes before now Memory = Unit {0}
 
--- ---- reattaching
-
--- The log goes on with what its file has: the same list, or a further transaction, with its
--- receipt.
-abbrev pub IsReattached
-    : {D : Type 0} → LogValue D → LogValue D → Option (ReceiptValue (List Operation)) → Type 0
-IsReattached old new None = new ≡ record old { store = new.store; halt = None }
-IsReattached old new (Some receipt) =
-    IsAppended old new receipt.item × (receipt ≡ receipt_of old receipt.item)
-
--- what the bytes of a file stand for, where that receipt is handed out
-abbrev pub StandsWithReceipt
-    : List (List Operation) → Option (ReceiptValue (List Operation)) → List ℕ → Type 0
-StandsWithReceipt list None bytes = Stands list bytes
-StandsWithReceipt list (Some receipt) bytes = Stands (list ++ receipt.item ∷ []) bytes
-
--- Why a log can't go on: the file differs from what the log wrote, which never comes where the
--- store tells what its files hold; the roll is full; the store has failed; memory has run out.
-abbrev pub IsReattachRefused
-    : Bool → List (List Operation) → ℕ → ℕ → LogError → Type 0
-IsReattachRefused tells list before now (BadRecord line) = tells ≡ true → ⊥
-IsReattachRefused tells list before now (Limit Roll) = MAX_ITEMS ≤ length list
-IsReattachRefused tells list before now (Limit which) = ⊥
-IsReattachRefused tells list before now Disk = Rose before now
-IsReattachRefused tells list before now Memory = Unit {0}
-
 -- ---- another file
 
 -- why bytes can't be written beside the log

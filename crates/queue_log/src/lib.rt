@@ -8,6 +8,7 @@ mod log;
 mod logged;
 mod new_log;
 mod read;
+mod reattach;
 mod recover;
 mod same;
 

@@ -117,8 +117,8 @@ impl<D: Store> Log<D> {
     /// Writes a transaction at the end of the file, makes it solid, and then puts it on the roll
     /// and does it to the queue. It is refused where a line would be too long (`LogLine`) or the
     /// roll is full (`Roll`), and then, or where memory runs out first, nothing has changed. Where
-    /// writing fails, or memory runs out in it, the log is halted: it answers the same error from
-    /// then on.
+    /// writing fails, or memory runs out in it, the log is halted: it answers the same error until
+    /// it is reattached.
     /// Computes in O(bytes of the text), and in the time of `Queue::prepare`.
     pub fn append(&mut self, alloc: Global, tx: Tx) -> Result<Receipt<Tx>, LogError>
         requires applies { IsOk (queue_after self.old.queue tx) }

@@ -1,9 +1,9 @@
-ghost use Rattle.std.specs.Prelude.{◌≡◌, ◌≢◌, ◌<◌, ◌≤◌, ◌++◌, ◌∷◌, [], length, Some, None, Ok, IsOk, IfOk, IfErr, IfSome, IsSome, MatchOption, OnOk, slice_get};
+ghost use Rattle.std.specs.Prelude.{◌≡◌, ◌≢◌, ◌<◌, ◌≤◌, ◌++◌, ◌∷◌, [], length, Some, None, Ok, IsOk, IfOk, IfErr, IfSome, IsSomeAnd, MatchOption, OnOk, slice_get};
 ghost use Rattle.pool_outer.specs.declared.limit.Which.TheVariants as which;
 ghost use Rattle.receipt_roll.specs.declared.roll.TheConstants.{MAX_ITEMS};
 ghost use Rattle.queue_tx.specs.Printable.{IsPrintable};
 ghost use Rattle.queue_tx.specs.Queues.{queue_after};
-ghost use Rattle.queue_log.specs.Logged.{IsBeyond, IsBeyondRefused, IsLogged, IsOverLimit, IsReadyFor, IsTooMany, logged_receipt};
+ghost use Rattle.queue_log.specs.Logged.{IsBeyond, IsBeyondRefused, IsLogged, IsNext, IsOverLimit, IsReadyFor, IsTooMany, logged_receipt};
 
 use crate::error::LogError;
 use crate::same::is_same_list;
@@ -29,11 +29,12 @@ pub(crate) struct Ready {
     pub(crate) changes: Prepared,
 }
 
-/// A transaction that was read beyond the roll, twice.
+/// A transaction that was read beyond the roll, twice, and the queue with it done.
 #[derive(Drop)]
 pub(crate) struct More {
     pub(crate) tx: Tx,
     pub(crate) copy: Tx,
+    pub(crate) queue: Queue,
 }
 
 impl Model for Logged {
@@ -142,10 +143,18 @@ impl Logged {
 }
 
 impl Logged {
-    // The one transaction that a list which was read has beyond the roll, and room for it.
-    pub(crate) fn beyond(&mut self, alloc: Global, list: TxList) -> Result<Option<More>, LogError>
-        ensures more { IfOk result (IsBeyond list self.old.list) }
-        ensures room { IfOk result (λ m. IfSome m (λ _. 0 < self.new.spare)) }
+    // The one transaction that a list which was read has beyond the roll, with the queue of that
+    // list, and room for it on the roll.
+    pub(crate) fn beyond(
+        &mut self,
+        alloc: Global,
+        list: TxList,
+        queue: Queue,
+    ) -> Result<Option<More>, LogError>
+        requires { IsLogged list queue }
+        ensures beyond { IfOk result (IsBeyond list queue self.old.list) }
+        ensures next { IfOk result
+            (λ more. IfSome more (IsNext self.old.list self.old.queue self.new.spare)) }
         ensures refused { IfErr result (IsBeyondRefused list self.old.list) }
         ensures list { self.new.list ≡ self.old.list }
         ensures queue { self.new.queue ≡ self.old.queue }
@@ -156,15 +165,17 @@ impl Logged {
             return Err(LogError::BadRecord { line: 0 });
         }
         match last {
-            Some(tx) => self.more(alloc, tx),
+            Some(tx) => self.more(alloc, tx, queue),
             None => Ok(None),
         }
     }
 
-    fn more(&mut self, alloc: Global, tx: Tx) -> Result<Option<More>, LogError>
-        ensures more { IfOk result (λ m. IfSome m (λ m. (m.tx ≡ tx) × (m.copy ≡ tx))) }
-        ensures some { IfOk result IsSome }
-        ensures room { OnOk result (0 < self.new.spare) }
+    fn more(&mut self, alloc: Global, tx: Tx, queue: Queue) -> Result<Option<More>, LogError>
+        requires { IsLogged (self.old.list ++ tx ∷ []) queue }
+        ensures some { IfOk result
+            (λ more. IsSomeAnd more (λ m. (m.tx ≡ tx) × (m.queue ≡ queue))) }
+        ensures next { IfOk result
+            (λ more. IfSome more (IsNext self.old.list self.old.queue self.new.spare)) }
         ensures refused { IfErr result (λ e. e ≢ LogError.Memory
             → (e ≡ LogError.Limit which.Roll) × (MAX_ITEMS ≤ length self.old.list)) }
         ensures list { self.new.list ≡ self.old.list }
@@ -175,20 +186,18 @@ impl Logged {
             return Err(LogError::from(error));
         }
         let copy = tx.copy(alloc)?;
-        Ok(Some(More { tx, copy }))
+        Ok(Some(More { tx, copy, queue }))
     }
 
-    // Takes in the transaction that was read beyond the roll, and the queue that was read.
-    pub(crate) fn take(&mut self, more: More, queue: Queue) -> Receipt<Tx>
-        requires logged { IsLogged (self.old.list ++ more.tx ∷ []) queue }
-        requires copied { more.copy ≡ more.tx }
-        requires room { 0 < self.old.spare }
+    // Takes in the transaction that was read beyond the roll, without memory.
+    pub(crate) fn take(&mut self, more: More) -> Receipt<Tx>
+        requires { IsNext self.old.list self.old.queue self.old.spare more }
         ensures receipt { result ≡ logged_receipt self.old more.tx }
         ensures list { self.new.list ≡ self.old.list ++ more.tx ∷ [] }
-        ensures queue { self.new.queue ≡ queue }
+        ensures queue { self.new.queue ≡ more.queue }
         ensures mark { self.new.mark ≡ self.old.mark }
     {
-        let More { tx, copy } = more;
+        let More { tx, copy, queue } = more;
         self.queue = queue;
         self.roll.append(tx, copy).unwrap()
     }

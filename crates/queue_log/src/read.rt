@@ -1,6 +1,6 @@
 // Reading a log's file.
 
-ghost use Rattle.std.specs.Prelude.{◌≡◌, ◌≤◌, ◌<◌, ℕ, List, true, Some, None, length, take, drop, IfOk, IfErr, OnOk};
+ghost use Rattle.std.specs.Prelude.{◌≡◌, ◌≤◌, ◌<◌, ◌^◌, ℕ, List, true, Some, None, length, take, drop, IfOk, IfErr, OnOk};
 ghost use Rattle.std.specs.Option.{option_map};
 ghost use Rattle.pool_outer.specs.Files.{bytes_in};
 ghost use Rattle.queue_record.specs.Reading.{start, fed};
@@ -40,6 +40,8 @@ pub(crate) fn read_log<D: Store>(
     ensures keeps { D.tells store.old ≡ true
         → KeepsFile D.file D.solid D.moment D.left_since name.now store.old store.new }
     ensures solid { D.tells store.old ≡ true → OnOk result (size ≤ D.solid store.new name.now) }
+    ensures small { D.tells store.old ≡ true
+        → OnOk result (length (bytes_in (D.file store.old name.now)) < 2 ^ 64) }
 
     // The names, what the store tells, and its faults.
     ensures known { (other : List ℕ) → D.known store.old other ≡ true

@@ -1,7 +1,9 @@
-use Rattle.std.proofs.Common.{◌≡◌, ◌≤◌, ◌+◌, ◌<◌, length, Err, refl, ap, sym, subst, arith}
+use Rattle.std.proofs.Common.{◌≡◌, ◌≤◌, ◌+◌, ◌<◌, length, Err, refl, ap, sym, subst, arith, rules}
 use Rattle.pool_outer.specs.declared.limit.Which.TheVariants as which
+use Rattle.queue_tx.specs.Queues.{QueueOf, queue_after}
 use Rattle.queue_log.specs.declared.error.LogError.TheVariants.{Limit, Memory}
 use Rattle.receipt_roll.specs.declared.roll.TheConstants.{MAX_ITEMS}
+use Rattle.queue_log.proofs.Beyond.{last_applies}
 use Rattle.queue_log.proofs.Refusals.{by_roll}
 use Rattle.queue_log.proofs.logged.Logged.more.Goals as goal
 
@@ -12,3 +14,15 @@ returns-in-Err-clause-refused c =
     (by_roll (λ e. (e ≡ Memory → ⊥) → (e ≡ Limit which.Roll) × (MAX_ITEMS ≤ length c.args.self.now.list)) c.in-Err.error
     (λ full _. (refl, (let far = c.in-Err.ensures.full.0 (ap Err full) in omega arith)))
     (λ other. absurd (other refl)))
+
+pub returns-clause-next : goal.returns-clause-next
+returns-clause-next c =
+    let now = c.args.self.now in
+    let builds : QueueOf now.list now.queue = subst (λ v. QueueOf v.list v.queue) c.self.view_is c.self.invariant.builds in
+    record {
+      logged = c.requires;
+      applies = last_applies now.list c.args.tx now.queue c.args.queue builds c.requires.builds;
+      copied = search rules;
+      room = search rules;
+      within = search rules;
+    }

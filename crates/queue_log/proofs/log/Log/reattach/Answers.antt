@@ -1,0 +1,134 @@
+use Rattle.std.proofs.Common.{◌≡◌, ◌∙◌, ◌⊎◌, ℕ, List, Option, Some, None, true, ap, sym, subst}
+use Rattle.pool_outer.specs.Files.{bytes_in, Leaves}
+use Rattle.solid_file.proofs.Moments.{weaker}
+use Rattle.queue_log.specs.Logs.{IsWhole, KeepsLog, StandsForLog}
+use Rattle.queue_log.specs.Reattaching.{IsReattachRefused, IsRereadRefused}
+use Rattle.queue_log.proofs.Reattached.{found_some, goes_on, image_cut, image_kept, kept_on, refused_by, GoesOn}
+use Rattle.queue_log.proofs.log.Log.reattach.Goals as goal
+
+pub returns-in-Err-clause-refused : goal.returns-in-Err-clause-refused
+returns-in-Err-clause-refused g c =
+    let m = g.D.Store in
+    let me = c.self.inside in
+    let n = me.name in
+    let n' = c.as_str.result.now in
+    let named : n' ≡ n = c.as_str.ensures in
+    let old = me.store in
+    let new = c.reread.new.store in
+    let list = me.logged.list in
+    let queue = me.logged.queue in
+    let e = c.in-Err.error in
+    let found : IsRereadRefused (m.tells old) (bytes_in (m.file old n)) list (m.faults old) (m.faults new) e =
+    subst (λ z. IsRereadRefused (m.tells old) (bytes_in (m.file old z)) list (m.faults old) (m.faults new) e) named c.in-Err.ensures.refused in
+    let refused : IsReattachRefused (m.tells old) (bytes_in (m.file old n)) list (m.faults old) (m.faults new) e =
+    refused_by me.halt list queue (bytes_in (m.file old n)) (m.solid old n) (m.tells old) (m.faults old) (m.faults new) e c.self.invariant.1 found in
+    subst (λ v. IsReattachRefused (m.tells v.store) (bytes_in (m.file v.store v.name)) v.list (m.faults v.store) (m.faults new) e) c.self.view_is refused
+
+pub returns-in-Err-clause-any_moment : goal.returns-in-Err-clause-any_moment
+returns-in-Err-clause-any_moment g c tells =
+    let m = g.D.Store in
+    let me = c.self.inside in
+    let n = me.name in
+    let n' = c.as_str.result.now in
+    let named : n' ≡ n = c.as_str.ensures in
+    let old = me.store in
+    let new = c.reread.new.store in
+    let list = me.logged.list in
+    let queue = me.logged.queue in
+    let tells' : m.tells old ≡ true = ap (λ v. m.tells v.store) c.self.view_is ∙ tells in
+    let keeps : KeepsLog me.halt list queue (bytes_in (m.file old n')) (m.solid old n') =
+    subst (λ z. KeepsLog me.halt list queue (bytes_in (m.file old z)) (m.solid old z)) (sym named) (c.self.invariant.1 tells') in
+    let e = c.in-Err.ensures in
+    let keeps' : KeepsLog me.halt list queue (bytes_in (m.file new n')) (m.solid new n') =
+    kept_on me.halt list queue (m.file old n') (m.file new n') (m.solid old n') (m.solid new n') (e.same tells') (e.no_less tells') keeps in
+    rw (← c.self.view_is, ← named)
+    (weaker m.moment m.left_since n' old new (λ image. Leaves (m.file old) (m.solid old) n' image ⊎ Leaves (m.file new) (m.solid new) n' image) (StandsForLog me.halt list) (e.any_moment tells')
+    (λ image i. image_kept me.halt list queue (bytes_in (m.file old n')) (bytes_in (m.file new n')) image (m.solid old n') (m.solid new n') keeps keeps' i))
+
+pub returns-in-Err-clause-uncut : goal.returns-in-Err-clause-uncut
+returns-in-Err-clause-uncut g c tells =
+    let m = g.D.Store in
+    let me = c.self.inside in
+    let n' = c.as_str.result.now in
+    let named : n' ≡ me.name = c.as_str.ensures in
+    let tells' : m.tells me.store ≡ true = ap (λ v. m.tells v.store) c.self.view_is ∙ tells in
+    rw (← c.self.view_is, ← named) (ap bytes_in (c.in-Err.ensures.same tells'))
+
+pub invariant_of-self-in-None : goal.invariant_of-self-in-None
+invariant_of-self-in-None g c =
+    let m = g.D.Store in
+    let me = c.self.inside in
+    let n = me.name in
+    let n' = c.as_str.result.now in
+    let named : n' ≡ n = c.as_str.ensures in
+    let old = me.store in
+    let new = c.reread.new.store in
+    let list = me.logged.list in
+    let queue = me.logged.queue in
+    let e = c.reread.ensures in
+    rw (← named, e.list, e.queue) (
+      e.known n' (subst (λ z. m.known old z ≡ true) (sym named) c.self.invariant.0),
+      λ tells.
+          let tells' : m.tells old ≡ true = sym e.told ∙ tells in
+          let keeps : KeepsLog me.halt list queue (bytes_in (m.file old n')) (m.solid old n') =
+          subst (λ z. KeepsLog me.halt list queue (bytes_in (m.file old z)) (m.solid old z)) (sym named) (c.self.invariant.1 tells') in
+          let goes = goes_on me.halt list queue (bytes_in (m.file old n')) (bytes_in (m.file new n')) (m.solid old n') (m.solid new n') c.in-Ok.more keeps (c.in-Ok.ensures.reread tells') in
+          let whole : IsWhole list queue (bytes_in (m.file new n')) (m.solid new n') = subst (GoesOn me.halt list queue (bytes_in (m.file new n')) (m.solid new n')) c.in-None.is goes in
+          whole,
+    )
+
+pub returns-in-Some-clause-found : goal.returns-in-Some-clause-found
+returns-in-Some-clause-found g c tells =
+    let m = g.D.Store in
+    let me = c.self.inside in
+    let n = me.name in
+    let n' = c.as_str.result.now in
+    let named : n' ≡ n = c.as_str.ensures in
+    let old = me.store in
+    let new = c.reread.new.store in
+    let list = me.logged.list in
+    let queue = me.logged.queue in
+    let tells' : m.tells old ≡ true = ap (λ v. m.tells v.store) c.self.view_is ∙ tells in
+    let keeps : KeepsLog me.halt list queue (bytes_in (m.file old n')) (m.solid old n') =
+    subst (λ z. KeepsLog me.halt list queue (bytes_in (m.file old z)) (m.solid old z)) (sym named) (c.self.invariant.1 tells') in
+    let item : c.take.result.item ≡ c.in-Some.more.tx = ap (λ r. r.item) c.take.ensures.receipt in
+    rw (← c.self.view_is, ← named)
+    (found_some me.halt list queue (bytes_in (m.file old n')) (bytes_in (m.file new n')) (m.solid old n') (m.solid new n') c.in-Ok.more c.in-Some.more c.take.result keeps (c.in-Ok.ensures.reread tells') c.in-Some.is item)
+
+pub returns-in-Some-clause-any_moment : goal.returns-in-Some-clause-any_moment
+returns-in-Some-clause-any_moment g c tells =
+    let m = g.D.Store in
+    let me = c.self.inside in
+    let n = me.name in
+    let n' = c.as_str.result.now in
+    let named : n' ≡ n = c.as_str.ensures in
+    let old = me.store in
+    let new = c.reread.new.store in
+    let list = me.logged.list in
+    let queue = me.logged.queue in
+    let tells' : m.tells old ≡ true = ap (λ v. m.tells v.store) c.self.view_is ∙ tells in
+    let keeps : KeepsLog me.halt list queue (bytes_in (m.file old n')) (m.solid old n') =
+    subst (λ z. KeepsLog me.halt list queue (bytes_in (m.file old z)) (m.solid old z)) (sym named) (c.self.invariant.1 tells') in
+    let goes = goes_on me.halt list queue (bytes_in (m.file old n')) (bytes_in (m.file new n')) (m.solid old n') (m.solid new n') c.in-Ok.more keeps (c.in-Ok.ensures.reread tells') in
+    rw (← c.self.view_is, ← named)
+    (weaker m.moment m.left_since n' old new (λ image. Leaves (m.file old) (m.solid old) n' image ⊎ Leaves (m.file new) (m.solid new) n' image) (StandsForLog me.halt list) (c.in-Ok.ensures.any_moment tells')
+    (λ image i. image_cut me.halt list queue (bytes_in (m.file old n')) (bytes_in (m.file new n')) image (m.solid old n') (m.solid new n') c.in-Ok.more keeps goes i))
+
+pub returns-in-None-clause-any_moment : goal.returns-in-None-clause-any_moment
+returns-in-None-clause-any_moment g c tells =
+    let m = g.D.Store in
+    let me = c.self.inside in
+    let n = me.name in
+    let n' = c.as_str.result.now in
+    let named : n' ≡ n = c.as_str.ensures in
+    let old = me.store in
+    let new = c.reread.new.store in
+    let list = me.logged.list in
+    let queue = me.logged.queue in
+    let tells' : m.tells old ≡ true = ap (λ v. m.tells v.store) c.self.view_is ∙ tells in
+    let keeps : KeepsLog me.halt list queue (bytes_in (m.file old n')) (m.solid old n') =
+    subst (λ z. KeepsLog me.halt list queue (bytes_in (m.file old z)) (m.solid old z)) (sym named) (c.self.invariant.1 tells') in
+    let goes = goes_on me.halt list queue (bytes_in (m.file old n')) (bytes_in (m.file new n')) (m.solid old n') (m.solid new n') c.in-Ok.more keeps (c.in-Ok.ensures.reread tells') in
+    rw (← c.self.view_is, ← named)
+    (weaker m.moment m.left_since n' old new (λ image. Leaves (m.file old) (m.solid old) n' image ⊎ Leaves (m.file new) (m.solid new) n' image) (StandsForLog me.halt list) (c.in-Ok.ensures.any_moment tells')
+    (λ image i. image_cut me.halt list queue (bytes_in (m.file old n')) (bytes_in (m.file new n')) image (m.solid old n') (m.solid new n') c.in-Ok.more keeps goes i))

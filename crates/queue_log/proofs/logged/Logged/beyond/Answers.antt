@@ -1,0 +1,21 @@
+use Rattle.std.proofs.Common.{◌≡◌, ◌∙◌, ◌++◌, ◌∷◌, [], List, Some, None, ap, sym}
+use Rattle.queue_tx.specs.Operations.{Operation}
+use Rattle.queue_log.proofs.Beyond.{more_beyond, none_beyond, one_beyond}
+use Rattle.queue_log.proofs.logged.Logged.beyond.Goals as goal
+
+pub returns-in-Some-clause-beyond : goal.returns-in-Some-clause-beyond
+returns-in-Some-clause-beyond c =
+    let roll = c.args.self.now.list in
+    let txs = c.split_last-txs.result.0.items in
+    let last = c.split_last-txs.result.1 in
+    let same : txs ≡ roll = sym c.deref.ensures.value ∙ c.is_same_list.ensures.0 c.if-not-is_same_list.false ∙ c.items-2.ensures ∙ ap (λ v. v.list) c.self.view_is in
+    let is : c.args.list ≡ roll ++ c.in-Some.tx ∷ [] = one_beyond c.args.list txs roll _ last c.in-Some.tx c.split_last-txs.ensures c.in-Some.is same in
+    more_beyond c.args.list roll c.args.queue c.in-Some.tx c.more.result is c.more.ensures.some
+
+pub returns-in-None-clause-beyond : goal.returns-in-None-clause-beyond
+returns-in-None-clause-beyond c =
+    let roll = c.args.self.now.list in
+    let txs = c.split_last-txs.result.0.items in
+    let last = c.split_last-txs.result.1 in
+    let same : txs ≡ roll = sym c.deref.ensures.value ∙ c.is_same_list.ensures.0 c.if-not-is_same_list.false ∙ c.items-2.ensures ∙ ap (λ v. v.list) c.self.view_is in
+    none_beyond c.args.list txs roll _ c.args.queue last c.split_last-txs.ensures c.in-None.is same
