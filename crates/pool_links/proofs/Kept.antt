@@ -18,9 +18,9 @@ use Rattle.pool_protocol.specs.SlotPart.{HasParts, part_after_all}
 use Rattle.pool_protocol.proofs.Whole.{parts_on_all}
 use Rattle.startd_core.specs.Sound.{IsSound}
 use Rattle.startd_core.specs.Startds.{After, StartdValue}
-use Rattle.pool_links.specs.Linked.{IsPlaced, AreBorneOut, AreEndsReported, IsFinishedAs, IsStartdAt, AreStartds, IsPlanPlaced, Awaits, IsLinked, LeadTo, ended_of}
+use Rattle.pool_links.specs.Linked.{IsPlaced, AreBorneOut, AreEndsReported, IsFinishedAs, IsStartdAt, AreStartds, IsPlanPlaced, Awaits, IsLinked, StayLinked, ended_of}
 use Rattle.pool_links.specs.PoolParts.{Awaited, NewJobs, Planned, PoolParts, machine_parts, pool_parts}
-use Rattle.pool_links.specs.StartdEvents.{with_startd}
+use Rattle.pool_links.specs.StartdEvents.{parts_with_startd}
 use Rattle.pool_links.proofs.Going.{GoesOn, goes_on, all_good, borne_on, reported_on}
 use Rattle.pool_links.proofs.Machines.{AreFarFrom, machine_same, pool_changed, put_cases}
 use Rattle.pool_links.proofs.Owned.{AreStartdMoves, KeepsJobs, own_moves_keep, own_moves_say, said_by_all}
@@ -113,7 +113,7 @@ pub startd_event : (p : Protocol) (a : PoolParts) (machine : ℕ) (v : StartdVal
     → IsLinked p a → slice_get a.startds machine ≡ Some v → MayAll p ms → AreStartdMoves ms → AreFarFrom machine ms
     → map (part_after_all ms) (machine_parts v) ≡ machine_parts after.startd → after.startd.machine.number ≡ v.machine.number → IsSound after.startd
     → AreEndsReported (protocol_after_all p ms) after.startd.slots → AreBorneOut (protocol_after_all p ms) after.step.mails → said_by_all ms ≡ reports
-    → LeadTo p ms (with_startd machine after reports a)
+    → StayLinked p ms (parts_with_startd machine after reports a)
 startd_event p a machine v after reports ms linked at may startd far changed number sound ends borne says = record {
   may = may;
   linked = record {
@@ -131,7 +131,7 @@ startd_event p a machine v after reports ms linked at may startd far changed num
     mails = mails_with p q a.mails after.step.mails on linked.mails borne;
     claims = λ c there. on.placed c.claim.no.slot (linked.claims c there);
     granted = λ g there. on.placed g.run.claim.slot (linked.granted g (subst (IsIn g) keeps.grants there));
-    awaited = awaited_kept p q a (with_startd machine after reports a) a.awaited keeps.jobs keeps.pending on refl refl linked.awaited;
+    awaited = awaited_kept p q a (parts_with_startd machine after reports a) a.awaited keeps.jobs keeps.pending on refl refl linked.awaited;
   };
 }
   where

@@ -23,9 +23,9 @@ use Rattle.startd_core.specs.Permits.{GivesPermit, permit_in}
 use Rattle.startd_core.specs.Startds.{StartdValue, after_mail, slot_of, slot_of_claim}
 use Rattle.startd_core.proofs.PermitRows.{mail_permits}
 use Rattle.pool_links.specs.Launched.{IsPermitOf}
-use Rattle.pool_links.specs.Linked.{LeadTo}
+use Rattle.pool_links.specs.Linked.{StayLinked}
 use Rattle.pool_links.specs.PoolParts.{PoolParts}
-use Rattle.pool_links.specs.StartdEvents.{moves_in_slot, moves_of_received}
+use Rattle.pool_links.specs.StartdEvents.{moves_in_slot, moves_of_startd_mail}
 
 if_false : {R : Type 0} (x y : R) (b : Bool) → b ≡ false → (if b then x else y) ≡ y
 if_false x y b is = ap (λ c. if c then x else y) is
@@ -51,12 +51,12 @@ activate_starts boot slot run job ad until j reading ready to_come = by (held_of
         ∙ (ap (λ o. new_row o (record { run = run; job = job; until = until }) true reading) free
         ∙ if_false _ _ (nat_le until reading) (not_le until reading to_come)))
 
-permit_of : (p : Protocol) (b : PoolParts) (v : StartdValue) (mail : Mail) (judged : Option Judgement) (reading : ℕ) (permit : Permit) → LeadTo p (moves_of_received v mail judged reading) b
+permit_of : (p : Protocol) (b : PoolParts) (v : StartdValue) (mail : Mail) (judged : Option Judgement) (reading : ℕ) (permit : Permit) → StayLinked p (moves_of_startd_mail v mail judged reading) b
     → ((slot : Slot) → slot_of_claim v (asked_claim mail) ≡ Some slot → IfSome judged (IsJudgedHere slot mail)) → GivesPermit v mail judged reading permit
-    → IsPermitOf (protocol_after_all p (moves_of_received v mail judged reading)).pool permit
+    → IsPermitOf (protocol_after_all p (moves_of_startd_mail v mail judged reading)).pool permit
 permit_of p b v (Activate run job ad until) judged reading permit leads fits (ready, to_come, judges, is) = by_slot (slot_of v run.claim.slot) judged ready judges leads (λ slot at. fits slot at)
   where
-    started_in : (slot : Slot) (j : Judgement) → IsReadyFor slot.state run → LeadTo p (moves_of_mail v.machine.boot slot (Activate run job ad until) (Some j) reading) b → j.job ≡ ad
+    started_in : (slot : Slot) (j : Judgement) → IsReadyFor slot.state run → StayLinked p (moves_of_mail v.machine.boot slot (Activate run job ad until) (Some j) reading) b → j.job ≡ ad
         → IsPermitOf (protocol_after_all p (moves_of_mail v.machine.boot slot (Activate run job ad until) (Some j) reading)).pool permit
     started_in slot j can lead same =
         let moves = activate_starts v.machine.boot slot run job ad until j reading can to_come in
@@ -70,7 +70,7 @@ permit_of p b v (Activate run job ad until) judged reading permit leads fits (re
           lead.linked.safe.matched (started slot run job until j) there,
         )
 
-    by_slot : (o : Option Slot) (k : Option Judgement) → IsSomeAnd o (λ slot. IsReadyFor slot.state run) → IsSome k → LeadTo p (moves_in_slot v.machine.boot o (Activate run job ad until) k reading) b
+    by_slot : (o : Option Slot) (k : Option Judgement) → IsSomeAnd o (λ slot. IsReadyFor slot.state run) → IsSome k → StayLinked p (moves_in_slot v.machine.boot o (Activate run job ad until) k reading) b
         → ((slot : Slot) → o ≡ Some slot → IfSome k (IsJudgedHere slot (Activate run job ad until)))
         → IsPermitOf (protocol_after_all p (moves_in_slot v.machine.boot o (Activate run job ad until) k reading)).pool permit
     by_slot None k can some lead same = absurd can
@@ -91,11 +91,11 @@ permit_of p b v (Remove job) judged reading permit leads fits gives = absurd giv
 permit_of p b v (Hold job) judged reading permit leads fits gives = absurd gives
 permit_of p b v (Resume job) judged reading permit leads fits gives = absurd gives
 
-pub permits_matched : (p : Protocol) (b : PoolParts) (v : StartdValue) (mail : Mail) (judged : Option Judgement) (reading : ℕ) → LeadTo p (moves_of_received v mail judged reading) b
+pub permits_matched : (p : Protocol) (b : PoolParts) (v : StartdValue) (mail : Mail) (judged : Option Judgement) (reading : ℕ) → StayLinked p (moves_of_startd_mail v mail judged reading) b
     → ((slot : Slot) → slot_of_claim v (asked_claim mail) ≡ Some slot → IfSome judged (IsJudgedHere slot mail))
-    → IfSome (permit_in (after_mail v mail judged reading).step.answer) (IsPermitOf (protocol_after_all p (moves_of_received v mail judged reading)).pool)
+    → IfSome (permit_in (after_mail v mail judged reading).step.answer) (IsPermitOf (protocol_after_all p (moves_of_startd_mail v mail judged reading)).pool)
 permits_matched p b v mail judged reading leads fits = by (permit_in (after_mail v mail judged reading).step.answer) (mail_permits v mail judged reading)
   where
-    by : (o : Option Permit) → IfSome o (GivesPermit v mail judged reading) → IfSome o (IsPermitOf (protocol_after_all p (moves_of_received v mail judged reading)).pool)
+    by : (o : Option Permit) → IfSome o (GivesPermit v mail judged reading) → IfSome o (IsPermitOf (protocol_after_all p (moves_of_startd_mail v mail judged reading)).pool)
     by None gives = tt
     by (Some permit) gives = permit_of p b v mail judged reading permit leads fits gives

@@ -17,3 +17,4 @@ pub mod Opening
 pub mod Viewing
 pub mod Wanting
 pub mod Launching
+pub mod Reviewing

@@ -26,9 +26,9 @@ use Rattle.schedd_core.proofs.BackFits.{reopened_fits}
 use Rattle.schedd_core.proofs.KeptPlans.{kept_as_logged, reopened_part}
 use Rattle.schedd_core.proofs.LoggedMay.{part_committed}
 use Rattle.schedd_core.proofs.PlanMay.{stands_as, under_run}
-use Rattle.pool_links.specs.Linked.{IsPlaced, IsFinishedAs, AwaitsJobs, AwaitsPlan, Awaits, IsLinked, LeadTo}
+use Rattle.pool_links.specs.Linked.{IsPlaced, IsFinishedAs, AwaitsJobs, AwaitsPlan, Awaits, IsLinked, StayLinked}
 use Rattle.pool_links.specs.PoolParts.{Awaited, NewJobs, Planned, PoolParts}
-use Rattle.pool_links.specs.ScheddEvents.{Finishes, with_back}
+use Rattle.pool_links.specs.ScheddEvents.{Finishes, parts_with_return}
 use Rattle.pool_links.proofs.Going.{GoesOn, all_good, goes_on}
 use Rattle.pool_links.proofs.Kept.{in_both}
 use Rattle.pool_links.proofs.ScheddKept.{KeepsSaid, nothing_more, schedd_event}
@@ -66,8 +66,8 @@ module _ (read : List ℕ → Option ClaimId) (reads : IsReader read) where
   back_event : (p : Protocol) (a : PoolParts) (m : ProtocolMove) (v back : ScheddValue) (new : KeyedAds) (fin : JobId → Option Entry) (reading : ℕ) → IsLinked p a → MayAll p (m ∷ []) → Rattle.pool_links.proofs.ScheddKept.IsOffSlots m → (protocol_after p m).pending ≡ None
       → KeepsSaid p.pool (protocol_after p m).pool → IsPart (protocol_after p m) new v → v.waiting ≡ None → Fits new v → IsReopened v new reading back
       → ((job : JobId) → IsFinishedAs (ad_at (Proc job) new) (fin job) ((protocol_after p m).pool.jobs job)) → ((g : JobRun) → IsIn g (protocol_after p m).grants → IsPlaced p g.run.claim)
-      → LeadTo p (m ∷ []) (with_back back new fin a)
-  back_event p a m v back new fin reading linked may off none said part idle fits reopen finished granted = schedd_event p a (with_back back new fin a) (m ∷ []) linked may (off, tt) refl (record {
+      → StayLinked p (m ∷ []) (parts_with_return back new fin a)
+  back_event p a m v back new fin reading linked may off none said part idle fits reopen finished granted = schedd_event p a (parts_with_return back new fin a) (m ∷ []) linked may (off, tt) refl (record {
     moment = said.moment ∙ linked.moment;
     acked = subst (λ xs. SameMembers xs a.acked) (sym said.acked) linked.acked;
     ordered = subst (λ xs. SameMembers xs a.ordered) (sym said.ordered) linked.ordered;
@@ -104,7 +104,7 @@ module _ (read : List ℕ → Option ClaimId) (reads : IsReader read) where
 
   -- with its plan
   pub plan_kept : (p : Protocol) (a : PoolParts) (pl : JobPlan) (new : KeyedAds) (fin : JobId → Option Entry) (back : ScheddValue) (reading : ℕ) → IsLinked p a → AwaitsPlan p a pl → queue_after a.queue (plan_ops pl) ≡ Ok new → Finishes pl a.queue a.finished fin
-      → IsReopened a.schedd new reading back → LeadTo p (Commit ∷ []) (with_back back new fin a)
+      → IsReopened a.schedd new reading back → StayLinked p (Commit ∷ []) (parts_with_return back new fin a)
   plan_kept p a pl new fin back reading linked w h f reopen =
       back_event p a Commit (after_plan pl a.schedd) back new fin reading linked (tt, tt) tt refl (said_then p a linked)
       (part_committed p a.queue new a.schedd pl linked.schedd w.lost.fits.queue w.fitting h linked.facts w.change)
@@ -113,23 +113,23 @@ module _ (read : List ℕ → Option ClaimId) (reads : IsReader read) where
 
   -- with its submission
   pub jobs_kept : (p : Protocol) (a : PoolParts) (ids : List JobId) (tx : List Operation) (new : KeyedAds) (back : ScheddValue) (reading : ℕ) → IsLinked p a → AwaitsJobs p a ids tx → queue_after a.queue tx ≡ Ok new
-      → IsReopened a.schedd new reading back → LeadTo p (Commit ∷ []) (with_back back new a.finished a)
+      → IsReopened a.schedd new reading back → StayLinked p (Commit ∷ []) (parts_with_return back new a.finished a)
   jobs_kept p a ids tx new back reading linked w h reopen =
       back_event p a Commit a.schedd back new a.finished reading linked (tt, tt) tt refl (said_new p a ids tx new linked w h)
       (part_then p a ids tx new linked w h) w.idle (fits_new p a ids tx new linked w h) reopen
       (finished_new p a ids tx new linked w h) (placed_new p a ids tx new linked w h)
 
   -- without
-  pub nothing_kept : (p : Protocol) (a : PoolParts) (back : ScheddValue) (reading : ℕ) → IsLinked p a → IsReopened a.schedd a.queue reading back → LeadTo p (Drop ∷ []) (with_back back a.queue a.finished a)
+  pub nothing_kept : (p : Protocol) (a : PoolParts) (back : ScheddValue) (reading : ℕ) → IsLinked p a → IsReopened a.schedd a.queue reading back → StayLinked p (Drop ∷ []) (parts_with_return back a.queue a.finished a)
   nothing_kept p a back reading linked reopen = by a.awaited linked.awaited
     where
-      lost : (v : ScheddValue) → v.waiting ≡ None → Fits a.queue v → v.left ≡ a.schedd.left → v.next_run ≡ a.schedd.next_run → IsReopened v a.queue reading back → LeadTo p (Drop ∷ []) (with_back back a.queue a.finished a)
+      lost : (v : ScheddValue) → v.waiting ≡ None → Fits a.queue v → v.left ≡ a.schedd.left → v.next_run ≡ a.schedd.next_run → IsReopened v a.queue reading back → StayLinked p (Drop ∷ []) (parts_with_return back a.queue a.finished a)
       lost v idle fits left next r =
           back_event p a Drop v back a.queue a.finished reading linked (tt, tt) tt refl (record { moment = refl; acked = refl; ordered = refl; reports = refl })
           (record { jobs = subst (λ l. ShowsJobs a.queue l p.pool.jobs) (sym left) linked.schedd.jobs; next = linked.schedd.next ∙ sym next; marked = linked.schedd.marked })
           idle fits r linked.finished linked.granted
 
-      by : (o : Option Awaited) → Awaits p a o → LeadTo p (Drop ∷ []) (with_back back a.queue a.finished a)
+      by : (o : Option Awaited) → Awaits p a o → StayLinked p (Drop ∷ []) (parts_with_return back a.queue a.finished a)
       by None w = lost a.schedd w.waiting w.fits refl refl reopen
       by (Some (NewJobs ids tx)) w = lost a.schedd w.idle w.fits refl refl reopen
       by (Some (Planned pl)) w = lost w.unplanned w.lost.idle w.lost.fits w.lost.left w.lost.next (w.lost.back reading back reopen)

@@ -14,10 +14,10 @@ use Rattle.pool_protocol.specs.Protocol.{Change, Hidden, Submission, OfJob, Remo
 use Rattle.pool_protocol.specs.ProtocolMove.{ProtocolMove, PassTime, Pend, Commit, Drop, Confirm, TakeOrder, SendLease, HoldClaim, UseNumber, EndClaim, Reboot, StartRun, ExtendRun, StopRun, SayGone, MayAll, protocol_after, protocol_after_all}
 use Rattle.pool_protocol.specs.SlotPart.{SlotPart, HasParts, part_after, part_after_all}
 use Rattle.pool_protocol.proofs.Whole.{parts_on_all}
-use Rattle.pool_links.specs.Linked.{IsPlaced, AreBorneOut, IsFinishedAs, AreStartds, Awaits, IsLinked, LeadTo, ended_of}
+use Rattle.pool_links.specs.Linked.{IsPlaced, AreBorneOut, IsFinishedAs, AreStartds, Awaits, IsLinked, StayLinked, ended_of}
 use Rattle.pool_links.specs.PoolParts.{PoolParts, pool_parts}
-use Rattle.pool_links.specs.Wanted.{with_mails}
-use Rattle.pool_links.specs.StartdEvents.{at_reading}
+use Rattle.pool_links.specs.Wanted.{parts_with_mails}
+use Rattle.pool_links.specs.StartdEvents.{parts_at_reading}
 use Rattle.pool_links.proofs.Going.{GoesOn, goes_on, all_good, reported_on}
 use Rattle.pool_links.proofs.Kept.{awaited_kept, mails_with}
 
@@ -88,7 +88,7 @@ pub record NewLinks (p q : Protocol) (a b : PoolParts) : Type 0 where
   pub granted : (g : JobRun) → IsIn g q.grants → IsPlaced q g.run.claim
   pub awaited : Awaits q b b.awaited
 
-pub schedd_event : (p : Protocol) (a b : PoolParts) (ms : List ProtocolMove) → IsLinked p a → MayAll p ms → AreOffSlots ms → b.startds ≡ a.startds → NewLinks p (protocol_after_all p ms) a b → LeadTo p ms b
+pub schedd_event : (p : Protocol) (a b : PoolParts) (ms : List ProtocolMove) → IsLinked p a → MayAll p ms → AreOffSlots ms → b.startds ≡ a.startds → NewLinks p (protocol_after_all p ms) a b → StayLinked p ms b
 schedd_event p a b ms linked may off startds new = record {
   may = may;
   linked = record {
@@ -128,8 +128,8 @@ nothing_more (x ∷ xs) = ap (λ ys. x ∷ ys) (nothing_more xs)
 on_itself : (p : Protocol) (a : PoolParts) → IsLinked p a → GoesOn p p
 on_itself p a linked = goes_on p [] tt linked.facts linked.safe
 
-pub mails_linked : (p : Protocol) (a : PoolParts) (mails : List Mail) → IsLinked p a → AreBorneOut p mails → LeadTo p [] (with_mails mails a)
-mails_linked p a mails linked borne = schedd_event p a (with_mails mails a) [] linked tt tt refl (record {
+pub mails_linked : (p : Protocol) (a : PoolParts) (mails : List Mail) → IsLinked p a → AreBorneOut p mails → StayLinked p [] (parts_with_mails mails a)
+mails_linked p a mails linked borne = schedd_event p a (parts_with_mails mails a) [] linked tt tt refl (record {
   moment = linked.moment;
   acked = linked.acked;
   ordered = linked.ordered;
@@ -141,12 +141,12 @@ mails_linked p a mails linked borne = schedd_event p a (with_mails mails a) [] l
   borne = borne;
   claims = linked.claims;
   granted = linked.granted;
-  awaited = awaited_kept p p a (with_mails mails a) a.awaited refl refl (on_itself p a linked) refl refl linked.awaited;
+  awaited = awaited_kept p p a (parts_with_mails mails a) a.awaited refl refl (on_itself p a linked) refl refl linked.awaited;
 })
 
 -- ---- time
-pub time_linked : (p : Protocol) (a : PoolParts) (reading : ℕ) → IsLinked p a → LeadTo p (PassTime (max a.moment reading) ∷ []) (at_reading reading a)
-time_linked p a reading linked = schedd_event p a (at_reading reading a) (PassTime (max a.moment reading) ∷ []) linked may (tt, tt) refl (record {
+pub time_linked : (p : Protocol) (a : PoolParts) (reading : ℕ) → IsLinked p a → StayLinked p (PassTime (max a.moment reading) ∷ []) (parts_at_reading reading a)
+time_linked p a reading linked = schedd_event p a (parts_at_reading reading a) (PassTime (max a.moment reading) ∷ []) linked may (tt, tt) refl (record {
   moment = refl;
   acked = linked.acked;
   ordered = linked.ordered;
@@ -158,7 +158,7 @@ time_linked p a reading linked = schedd_event p a (at_reading reading a) (PassTi
   borne = λ m there. absurd there;
   claims = linked.claims;
   granted = linked.granted;
-  awaited = awaited_kept p q a (at_reading reading a) a.awaited refl refl (goes_on p (PassTime (max a.moment reading) ∷ []) may linked.facts linked.safe) refl refl linked.awaited;
+  awaited = awaited_kept p q a (parts_at_reading reading a) a.awaited refl refl (goes_on p (PassTime (max a.moment reading) ∷ []) may linked.facts linked.safe) refl refl linked.awaited;
 })
   where
     q : Protocol

@@ -25,9 +25,9 @@ use Rattle.schedd_core.proofs.LoggedMails.{logged_may, logged_part, mails_leased
 use Rattle.schedd_core.proofs.LoggedMay.{runs_are}
 use Rattle.schedd_core.proofs.PlanJobs.{Shown, plan_there, shown}
 use Rattle.schedd_core.proofs.PlanMay.{stands_as, under_run}
-use Rattle.pool_links.specs.Linked.{IsGranted, IsPlaced, IsBorneOut, AreBorneOut, IsFinishedAs, AwaitsPlan, IsLinked, LeadTo}
+use Rattle.pool_links.specs.Linked.{IsGranted, IsPlaced, IsBorneOut, AreBorneOut, IsFinishedAs, AwaitsPlan, IsLinked, StayLinked}
 use Rattle.pool_links.specs.PoolParts.{PoolParts}
-use Rattle.pool_links.specs.ScheddEvents.{Finishes, with_plan}
+use Rattle.pool_links.specs.ScheddEvents.{Finishes, parts_with_plan}
 use Rattle.pool_links.proofs.Finished.{Granted, finished_after, granted_by}
 use Rattle.pool_links.proofs.Going.{GoesOn, all_good, goes_on}
 use Rattle.pool_links.proofs.ScheddKept.{AreOffSlots, KeepsSaid, commit_said, schedd_event}
@@ -173,8 +173,8 @@ module _ (p : Protocol) (a : PoolParts) (pl : JobPlan) (new : KeyedAds) (fin : J
   sent_borne (plan.Lengthen job until) leased m there = alives_borne (run_of_job a.schedd.runs job) (is_stopped new job) until (stop_granted job) leased m there
   sent_borne (plan.Grant job claim number until header) leased m there = activates_borne (ad_at (Proc job) new) (numbered claim number) job until leased m there
 
-  pub plan_logged : LeadTo p ms (with_plan pl new fin a)
-  plan_logged = schedd_event p a (with_plan pl new fin a) ms linked may (tt, told.1) refl (record {
+  pub plan_logged : StayLinked p ms (parts_with_plan pl new fin a)
+  plan_logged = schedd_event p a (parts_with_plan pl new fin a) ms linked may (tt, told.1) refl (record {
     moment = ap (λ v. v.moment) told.0.pool ∙ (said.moment ∙ linked.moment);
     acked = subst (λ xs. SameMembers xs a.acked) (sym (ap (λ v. v.acked) told.0.pool ∙ said.acked)) linked.acked;
     ordered = subst (λ xs. SameMembers xs a.ordered) (sym (ap (λ v. v.ordered) told.0.pool ∙ said.ordered)) linked.ordered;

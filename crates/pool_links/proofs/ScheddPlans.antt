@@ -35,9 +35,9 @@ use Rattle.schedd_core.specs.Ticks.{IsTicked}
 use Rattle.schedd_core.proofs.EventFits.{check_fits, mail_fits, tick_fits}
 use Rattle.schedd_core.proofs.EventMay.{check_may, mail_may, tick_may}
 use Rattle.schedd_core.proofs.LostPlans.{check_as, mail_as, reopens_as, tick_as}
-use Rattle.pool_links.specs.Linked.{IsPlaced, IsBorneOut, IsFinishedAs, IsPlanPlaced, AwaitsNothing, Awaits, IsLinked, LeadTo}
+use Rattle.pool_links.specs.Linked.{IsPlaced, IsBorneOut, IsFinishedAs, IsPlanPlaced, AwaitsNothing, Awaits, IsLinked, StayLinked}
 use Rattle.pool_links.specs.PoolParts.{PoolParts}
-use Rattle.pool_links.specs.ScheddEvents.{is_known, is_known_by, job_removed, late_order, moves_of_word, orders_of, orders_of_mail, planned_by, with_schedd}
+use Rattle.pool_links.specs.ScheddEvents.{is_known, is_known_by, job_removed, late_order, moves_of_schedd_mail, orders_of, orders_of_mail, planned_by, parts_with_schedd}
 use Rattle.pool_links.proofs.Going.{may_append, after_append}
 use Rattle.pool_links.proofs.Kept.{same_with}
 use Rattle.pool_links.proofs.ScheddKept.{AreOffSlots, off_append, schedd_event}
@@ -106,7 +106,7 @@ planned_event : (p : Protocol) (a : PoolParts) (new : ScheddValue) (step : Sched
     → Plans p (protocol_after_all p ms) orders (option_map (change_of p.pool.jobs) step.plan)
     → Tidy (λ claim. IsPlaced p claim.no) a.schedd (record { schedd = new; step = step }) → FitsOn a.queue (record { schedd = new; step = step })
     → ((reading : ℕ) (back : ScheddValue) → IsReopened new a.queue reading back → IsReopened a.schedd a.queue reading back)
-    → LeadTo p ms (with_schedd new step orders a)
+    → StayLinked p ms (parts_with_schedd new step orders a)
 planned_event p a new step orders ms linked idle may off plans tidy fits back = schedd_event p a b ms linked may off refl (record {
   moment = plans.moment ∙ linked.moment;
   acked = subst (λ xs. SameMembers xs a.acked) (sym plans.acked) linked.acked;
@@ -130,7 +130,7 @@ planned_event p a new step orders ms linked idle may off plans tidy fits back = 
     q = protocol_after_all p ms
 
     b : PoolParts
-    b = with_schedd new step orders a
+    b = parts_with_schedd new step orders a
 
     placed : (claim : Rattle.claim_id.specs.declared.numbers.ClaimNo.ClaimNo) → IsPlaced p claim → IsPlaced q claim
     placed claim h = subst (λ f. IsSome (f claim.slot)) (sym plans.marks) h
@@ -291,7 +291,7 @@ two_plans p q r first second change x y = record {
 }
 
 pub mail_linked : (p : Protocol) (a : PoolParts) (m : Mail) (reading : ℕ) → IsLinked p a → a.awaited ≡ None → IsIn m a.mails
-    → LeadTo p (moves_of_word p.pool.jobs a m reading) (with_schedd (after_mail a.schedd a.queue m reading).schedd (after_mail a.schedd a.queue m reading).step (orders_of_mail a m reading) a)
+    → StayLinked p (moves_of_schedd_mail p.pool.jobs a m reading) (parts_with_schedd (after_mail a.schedd a.queue m reading).schedd (after_mail a.schedd a.queue m reading).step (orders_of_mail a m reading) a)
 mail_linked p a m reading linked idle sent =
     planned_event p a after.schedd after.step (orders_of_mail a m reading) (map TakeOrder late ++ moves) linked idle
     (may_append p (map TakeOrder late) moves first.may then_may)
@@ -362,7 +362,7 @@ remove_orders p a job reading linked = by (ad_at (Proc job) a.queue) (a.finished
 
 -- ---- ticks
 pub tick_linked : (p : Protocol) (a : PoolParts) (new : ScheddValue) (step : ScheddStep) (reading : ℕ) → IsLinked p a → a.awaited ≡ None → reading ≤ a.moment → IsTicked a.schedd a.queue reading new step
-    → LeadTo p (pends p.pool.jobs step.plan) (with_schedd new step [] a)
+    → StayLinked p (pends p.pool.jobs step.plan) (parts_with_schedd new step [] a)
 tick_linked p a new step reading linked idle now ticked =
     planned_event p a new step [] (pends p.pool.jobs step.plan) linked idle
     (tick_may p a.queue a.schedd linked.schedd before.fits before.change reading new step (subst (λ n. reading ≤ n) (sym linked.moment) now) ticked)
@@ -379,8 +379,8 @@ tick_linked p a new step reading linked idle now ticked =
 
 -- ---- looks at periodic expressions
 pub check_linked : (p : Protocol) (a : PoolParts) (job : JobId) (reading : ℕ) → IsLinked p a → a.awaited ≡ None
-    → LeadTo p (moves_of_order p.pool.jobs (after_check a.schedd a.queue job reading).step.plan)
-    (with_schedd (after_check a.schedd a.queue job reading).schedd (after_check a.schedd a.queue job reading).step (job_removed (after_check a.schedd a.queue job reading).step.plan) a)
+    → StayLinked p (moves_of_order p.pool.jobs (after_check a.schedd a.queue job reading).step.plan)
+    (parts_with_schedd (after_check a.schedd a.queue job reading).schedd (after_check a.schedd a.queue job reading).step (job_removed (after_check a.schedd a.queue job reading).step.plan) a)
 check_linked p a job reading linked idle =
     planned_event p a after.schedd after.step (job_removed after.step.plan) (moves_of_order p.pool.jobs after.step.plan) linked idle
     (check_may p a.queue a.schedd linked.schedd before.fits before.change job reading)

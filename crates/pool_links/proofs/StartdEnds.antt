@@ -29,9 +29,9 @@ use Rattle.startd_slot.proofs.SameNumbers.{same_run-true}
 use Rattle.startd_core.specs.Sound.{IsSound}
 use Rattle.startd_core.specs.Startds.{StartdValue, after_end, after_made, answer_of, concluded, ended_at, ended_in, ended_where, made_by, nothing_done, place_of, put_at, put_in, slot_in}
 use Rattle.startd_core.proofs.Stays.{end_put}
-use Rattle.pool_links.specs.Linked.{IsBorneOut, AreBorneOut, IsEndReported, IsLinked, IsStartdAt, LeadTo, ended_of}
+use Rattle.pool_links.specs.Linked.{IsBorneOut, AreBorneOut, IsEndReported, IsLinked, IsStartdAt, StayLinked, ended_of}
 use Rattle.pool_links.specs.PoolParts.{PoolParts}
-use Rattle.pool_links.specs.StartdEvents.{ends_in_slot, ends_where, moves_of_ended, report_of, report_where, reports_in_slot, reports_of_end, with_startd}
+use Rattle.pool_links.specs.StartdEvents.{ends_in_slot, ends_where, moves_of_ended_run, end_report_of, report_where, reports_in_slot, reports_of_end, parts_with_startd}
 use Rattle.pool_links.proofs.Kept.{in_first}
 use Rattle.pool_links.proofs.Machines.{at_place}
 use Rattle.pool_links.proofs.Owned.{AreOwn, own_are_startd, own_moves_say, said_by_all}
@@ -57,12 +57,12 @@ after_quiet boot slot s false c = by s.held s.rival c.held c.rival
 abbrev SaysEnd : SlotId → List ProtocolMove → List EndReport → Type 0
 SaysEnd slot ms reports = AreOwn slot ms × (said_by_all ms ≡ reports)
 
-end_says_it : (boot : ℕ) (slot : Slot) (ending : Ending) → IsConsistent boot slot.id slot.state → SaysEnd slot.id (moves_of_end slot ending) (report_of (running_of slot.state) ending)
+end_says_it : (boot : ℕ) (slot : Slot) (ending : Ending) → IsConsistent boot slot.id slot.state → SaysEnd slot.id (moves_of_end slot ending) (end_report_of (running_of slot.state) ending)
 end_says_it boot slot ending c = by (running_of slot.state) (if is_busy slot.state.pair then [] else claim_ends slot.state.held (rival_holds slot.state.rival)) (after_quiet boot slot.id slot.state (is_busy slot.state.pair) c)
   where
-    by : (o : Option Running) (rest : List ProtocolMove) → AreOwn slot.id rest × (said_by_all rest ≡ []) → SaysEnd slot.id (run_stops o slot.id (Some (how_of ending.end (mark_in o))) rest) (report_of o ending)
+    by : (o : Option Running) (rest : List ProtocolMove) → AreOwn slot.id rest × (said_by_all rest ≡ []) → SaysEnd slot.id (run_stops o slot.id (Some (how_of ending.end (mark_in o))) rest) (end_report_of o ending)
     by None rest quiet = quiet
-    by (Some r) rest quiet = ((refl, quiet.0), ap (λ xs. xs ++ report_of (Some r) ending) quiet.1)
+    by (Some r) rest quiet = ((refl, quiet.0), ap (λ xs. xs ++ end_report_of (Some r) ending) quiet.1)
 
 -- ---- the end that the slot keeps, and the mails
 -- none, or that of the run
@@ -104,24 +104,24 @@ end_mails q s ending how reading said = by (is_busy s.pair) s.rival
 -- the report is there
 end_said : (p : Protocol) (boot : ℕ) (slot : Slot) (ending : Ending) → IsConsistent boot slot.id slot.state → runs_on slot.state ending.run ≡ true
     → IsBorneOut (protocol_after_all p (moves_of_end slot ending)) (Ended ending.run (how_of ending.end (mark_in (running_of slot.state))))
-end_said p boot slot ending c here = by (running_of slot.state) here (λ s there. subst (IsIn s) (sym reports) (in_first s (report_of (running_of slot.state) ending) p.pool.reports there))
+end_said p boot slot ending c here = by (running_of slot.state) here (λ s there. subst (IsIn s) (sym reports) (in_first s (end_report_of (running_of slot.state) ending) p.pool.reports there))
   where
     q : Protocol
     q = protocol_after_all p (moves_of_end slot ending)
 
-    its : SaysEnd slot.id (moves_of_end slot ending) (report_of (running_of slot.state) ending)
+    its : SaysEnd slot.id (moves_of_end slot ending) (end_report_of (running_of slot.state) ending)
     its = end_says_it boot slot ending c
 
-    reports : q.pool.reports ≡ report_of (running_of slot.state) ending ++ p.pool.reports
+    reports : q.pool.reports ≡ end_report_of (running_of slot.state) ending ++ p.pool.reports
     reports = own_moves_say p (moves_of_end slot ending) (own_are_startd slot.id (moves_of_end slot ending) its.0) ∙ ap (λ xs. xs ++ p.pool.reports) its.1
 
-    by : (o : Option Running) → is_run o ending.run ≡ true → ((s : EndReport) → IsIn s (report_of o ending) → IsIn s q.pool.reports) → IsBorneOut q (Ended ending.run (how_of ending.end (mark_in o)))
+    by : (o : Option Running) → is_run o ending.run ≡ true → ((s : EndReport) → IsIn s (end_report_of o ending) → IsIn s q.pool.reports) → IsBorneOut q (Ended ending.run (how_of ending.end (mark_in o)))
     by None h there = absurd (true≢false (sym h))
     by (Some r) h there = subst (λ run. IsBorneOut q (Ended run (how_of ending.end r.mark))) (same_run-true r.run ending.run h) (r.job, there _ (inl refl))
 
 -- ---- the event
 pub end_linked : (p : Protocol) (a : PoolParts) (machine : ℕ) (v : StartdValue) (ending : Ending) (reading : ℕ) → IsLinked p a → slice_get a.startds machine ≡ Some v
-    → LeadTo p (moves_of_ended v ending) (with_startd machine (after_end v ending reading) (reports_of_end v ending) a)
+    → StayLinked p (moves_of_ended_run v ending) (parts_with_startd machine (after_end v ending reading) (reports_of_end v ending) a)
 unfolding put_at made_by
 end_linked p a machine v ending reading linked at = by_place (place_of v ending.run.claim.slot)
   where
@@ -129,7 +129,7 @@ end_linked p a machine v ending reading linked at = by_place (place_of v ending.
     l = linked.startds machine v at
 
     at_slot : (place : ℕ) (slot : Slot) → runs_on slot.state ending.run ≡ true → slice_get v.slots place ≡ Some slot
-        → LeadTo p (moves_of_end slot ending) (with_startd machine (after_made v place (made_by v.machine v.offers slot (after_ending ending reading slot.state) reading)) (report_of (running_of slot.state) ending) a)
+        → StayLinked p (moves_of_end slot ending) (parts_with_startd machine (after_made v place (made_by v.machine v.offers slot (after_ending ending reading slot.state) reading)) (end_report_of (running_of slot.state) ending) a)
     at_slot place slot here there =
         let r : Reaction = after_ending ending reading slot.state in
         let ms : List ProtocolMove = moves_of_end slot ending in
@@ -138,8 +138,8 @@ end_linked p a machine v ending reading linked at = by_place (place_of v ending.
         let may : MayAll p ms = ending_may p v.machine.boot slot ending here its.consistent linked.facts linked.safe (linked.slots.each (part_of v.machine.boot slot) (in_pool a.startds machine v slot at (at_place slot v.slots place there))) in
         let quiet = end_says_it v.machine.boot slot ending its.consistent in
         let said = end_said p v.machine.boot slot ending its.consistent here in
-        subst (λ o. LeadTo p ms (with_startd machine (record { startd = put_in v place o (concluded v.machine slot v.offers r reading); step = record { mails = (concluded v.machine slot v.offers r reading).mails; answer = answer_of r.task } }) (report_of (running_of slot.state) ending) a)) (sym there)
-        (slot_event p a machine place v slot r (answer_of r.task) reading (report_of (running_of slot.state) ending) ms linked at there may quiet.0 quiet.1
+        subst (λ o. StayLinked p ms (parts_with_startd machine (record { startd = put_in v place o (concluded v.machine slot v.offers r reading); step = record { mails = (concluded v.machine slot v.offers r reading).mails; answer = answer_of r.task } }) (end_report_of (running_of slot.state) ending) a)) (sym there)
+        (slot_event p a machine place v slot r (answer_of r.task) reading (end_report_of (running_of slot.state) ending) ms linked at there may quiet.0 quiet.1
         (ending_changes v.machine.boot slot ending reading here its.consistent)
         (subst (λ o. IsSound (put_in v place o (concluded v.machine slot v.offers r reading))) there (end_put v place slot ending reading there here l.sound))
         (reported slot.state r.state ms how said (end_kept slot.state ending how reading))
@@ -150,14 +150,14 @@ end_linked p a machine v ending reading linked at = by_place (place_of v ending.
         reported s t ms how said (inr its) = subst (IsEndReported (protocol_after_all p ms)) (sym its) said
 
     by_run : (place : ℕ) (slot : Slot) (here : Bool) → runs_on slot.state ending.run ≡ here → slice_get v.slots place ≡ Some slot
-        → LeadTo p (ends_where here slot ending) (with_startd machine (ended_where here v place slot ending reading) (report_where here slot ending) a)
+        → StayLinked p (ends_where here slot ending) (parts_with_startd machine (ended_where here v place slot ending reading) (report_where here slot ending) a)
     by_run place slot true here there = at_slot place slot here there
     by_run place slot false here there = stays p a machine v nothing_done linked at (none_borne p)
 
-    by_slot : (place : ℕ) (o : Option Slot) → slice_get v.slots place ≡ o → LeadTo p (ends_in_slot o ending) (with_startd machine (ended_at v place o ending reading) (reports_in_slot o ending) a)
+    by_slot : (place : ℕ) (o : Option Slot) → slice_get v.slots place ≡ o → StayLinked p (ends_in_slot o ending) (parts_with_startd machine (ended_at v place o ending reading) (reports_in_slot o ending) a)
     by_slot place None there = stays p a machine v nothing_done linked at (none_borne p)
     by_slot place (Some slot) there = by_run place slot (runs_on slot.state ending.run) refl there
 
-    by_place : (o : Option ℕ) → LeadTo p (ends_in_slot (slot_in v o) ending) (with_startd machine (ended_in v o ending reading) (reports_in_slot (slot_in v o) ending) a)
+    by_place : (o : Option ℕ) → StayLinked p (ends_in_slot (slot_in v o) ending) (parts_with_startd machine (ended_in v o ending reading) (reports_in_slot (slot_in v o) ending) a)
     by_place None = stays p a machine v nothing_done linked at (none_borne p)
     by_place (Some place) = by_slot place (slice_get v.slots place) refl

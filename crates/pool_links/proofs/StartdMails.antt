@@ -33,9 +33,9 @@ use Rattle.startd_core.specs.Startds.{After, StartdValue, after_mail, after_made
 use Rattle.startd_core.proofs.Places.{slot_there}
 use Rattle.startd_core.proofs.Stays.{mail_put}
 use Rattle.startd_core.proofs.Telling.{concluded_part}
-use Rattle.pool_links.specs.Linked.{IsPlaced, IsBorneOut, AreBorneOut, IsEndReported, AreEndsReported, IsLinked, IsStartdAt, LeadTo, ended_of}
+use Rattle.pool_links.specs.Linked.{IsPlaced, IsBorneOut, AreBorneOut, IsEndReported, AreEndsReported, IsLinked, IsStartdAt, StayLinked, ended_of}
 use Rattle.pool_links.specs.PoolParts.{PoolParts, machine_parts, pool_parts, slot_in_pool, slot_of_startd}
-use Rattle.pool_links.specs.StartdEvents.{moves_in_slot, moves_of_received, with_startd}
+use Rattle.pool_links.specs.StartdEvents.{moves_in_slot, moves_of_startd_mail, parts_with_startd}
 use Rattle.pool_links.proofs.Going.{GoesOn, goes_on, reported_on}
 use Rattle.pool_links.proofs.Kept.{in_first, in_second, in_both, startd_event}
 use Rattle.pool_links.proofs.Machines.{at_place, in_place, own_far, put_cases, slot_changed, unchanged}
@@ -139,7 +139,7 @@ found_placed p a id slot linked is = by_startd (slice_get a.startds id.machine) 
 
 -- ---- a startd that stays
 pub stays : (p : Protocol) (a : PoolParts) (machine : ℕ) (v : StartdValue) (step : StartdStep) → IsLinked p a → slice_get a.startds machine ≡ Some v → AreBorneOut p step.mails
-    → LeadTo p [] (with_startd machine (record { startd = v; step = step }) [] a)
+    → StayLinked p [] (parts_with_startd machine (record { startd = v; step = step }) [] a)
 stays p a machine v step linked at borne =
     startd_event p a machine v (record { startd = v; step = step }) [] [] linked at tt tt (λ s other. refl) (unchanged (part_of v.machine.boot) (part_after_all []) v.slots (λ s there. refl)) refl
     (linked.startds machine v at).sound (linked.startds machine v at).ends borne refl
@@ -180,7 +180,7 @@ pub slot_event : (p : Protocol) (a : PoolParts) (machine place : ℕ) (v : Start
     → part_after_all ms (part_of v.machine.boot slot) ≡ part_of v.machine.boot (record slot { state = r.state })
     → IsSound (with_conclusion v place slot (concluded v.machine slot v.offers r reading))
     → IsEndReported (protocol_after_all p ms) (ended_of r.state.held) → AreBorneOut (protocol_after_all p ms) r.mails
-    → LeadTo p ms (with_startd machine (record { startd = with_conclusion v place slot (concluded v.machine slot v.offers r reading); step = record { mails = (concluded v.machine slot v.offers r reading).mails; answer = answer } }) reports a)
+    → StayLinked p ms (parts_with_startd machine (record { startd = with_conclusion v place slot (concluded v.machine slot v.offers r reading); step = record { mails = (concluded v.machine slot v.offers r reading).mails; answer = answer } }) reports a)
 slot_event p a machine place v slot r answer reading reports ms linked at there may own says changed sound ended borne =
     startd_event p a machine v (record { startd = with_conclusion v place slot (concluded v.machine slot v.offers r reading); step = record { mails = (concluded v.machine slot v.offers r reading).mails; answer = answer } }) reports ms linked at may (own_are_startd slot.id ms own)
     (own_far slot.id machine ms (ap (λ (x : SlotId). x.machine) its.numbered ∙ (linked.startds machine v at).numbered) own)
@@ -291,7 +291,7 @@ stranger_borne p a m (Resume job) reading linked borne never = none_borne p
 pub mail_linked : (p : Protocol) (a : PoolParts) (machine : ℕ) (v : StartdValue) (mail : Mail) (judged : Option Judgement) (reading : ℕ)
     → IsLinked p a → slice_get a.startds machine ≡ Some v → IsIn mail a.mails → IsIn (Startd machine) (receivers_of mail)
     → ((slot : Slot) → slot_of_claim v (asked_claim mail) ≡ Some slot → IfSome judged (IsJudgedHere slot mail))
-    → LeadTo p (moves_of_received v mail judged reading) (with_startd machine (after_mail v mail judged reading) [] a)
+    → StayLinked p (moves_of_startd_mail v mail judged reading) (parts_with_startd machine (after_mail v mail judged reading) [] a)
 unfolding put_at made_by
 mail_linked p a machine v mail judged reading linked at sent to fits = by_claim (asked_claim mail) refl
   where
@@ -299,7 +299,7 @@ mail_linked p a machine v mail judged reading linked at sent to fits = by_claim 
     l = linked.startds machine v at
 
     at_slot : (place : ℕ) (slot : Slot) (claim : ClaimNo) → asked_claim mail ≡ Some claim → place_of v claim.slot ≡ Some place → slice_get v.slots place ≡ Some slot
-        → LeadTo p (moves_of_mail v.machine.boot slot mail judged reading) (with_startd machine (after_made v place (made_by v.machine v.offers slot (reaction_to v.machine.boot slot mail judged reading) reading)) [] a)
+        → StayLinked p (moves_of_mail v.machine.boot slot mail judged reading) (parts_with_startd machine (after_made v place (made_by v.machine v.offers slot (reaction_to v.machine.boot slot mail judged reading) reading)) [] a)
     at_slot place slot claim asked is there =
         let r : Reaction = reaction_to v.machine.boot slot mail judged reading in
         let ms : List ProtocolMove = moves_of_mail v.machine.boot slot mail judged reading in
@@ -312,7 +312,7 @@ mail_linked p a machine v mail judged reading linked at sent to fits = by_claim 
         (told_of p mail (linked.mails mail sent)) (fits slot slot_is) in
         let was = l.ends slot (at_place slot v.slots place there) in
         let facts = mail_facts p v.machine.boot slot its.consistent mail judged reading asks was in
-        subst (λ o. LeadTo p ms (with_startd machine (record { startd = put_in v place o (concluded v.machine slot v.offers r reading); step = record { mails = (concluded v.machine slot v.offers r reading).mails; answer = Rattle.startd_core.specs.Startds.answer_of r.task } }) [] a)) (sym there)
+        subst (λ o. StayLinked p ms (parts_with_startd machine (record { startd = put_in v place o (concluded v.machine slot v.offers r reading); step = record { mails = (concluded v.machine slot v.offers r reading).mails; answer = Rattle.startd_core.specs.Startds.answer_of r.task } }) [] a)) (sym there)
         (slot_event p a machine place v slot r (Rattle.startd_core.specs.Startds.answer_of r.task) reading [] ms linked at there may facts.quiet.0 facts.quiet.1
         (mail_changes v.machine.boot slot mail judged reading its.consistent asks)
         (subst (λ o. IsSound (put_in v place o (concluded v.machine slot v.offers r reading))) there (mail_put v place slot mail judged reading there l.sound))
@@ -320,17 +320,17 @@ mail_linked p a machine v mail judged reading linked at sent to fits = by_claim 
         facts.borne)
 
     by_slot : (place : ℕ) (o : Option Slot) (claim : ClaimNo) → asked_claim mail ≡ Some claim → place_of v claim.slot ≡ Some place → slice_get v.slots place ≡ o
-        → LeadTo p (moves_in_slot v.machine.boot o mail judged reading) (with_startd machine (received_at v place o mail judged reading) [] a)
+        → StayLinked p (moves_in_slot v.machine.boot o mail judged reading) (parts_with_startd machine (received_at v place o mail judged reading) [] a)
     by_slot place None claim asked is there = stays p a machine v nothing_done linked at (none_borne p)
     by_slot place (Some slot) claim asked is there = at_slot place slot claim asked is there
 
     by_place : (o : Option ℕ) (claim : ClaimNo) → asked_claim mail ≡ Some claim → place_of v claim.slot ≡ o
-        → LeadTo p (moves_in_slot v.machine.boot (slot_in v o) mail judged reading) (with_startd machine (received_in v o mail judged reading) [] a)
+        → StayLinked p (moves_in_slot v.machine.boot (slot_in v o) mail judged reading) (parts_with_startd machine (received_in v o mail judged reading) [] a)
     by_place None claim asked is = stays p a machine v (stranger_step v.machine mail reading) linked at (stranger_borne p a v.machine mail reading linked (linked.mails mail sent)
         (λ run its placed. (let same : claim ≡ run.claim = same_Some claim run.claim (sym asked ∙ its) in
         placed_slot p a machine v claim.slot linked at (of_machine machine mail claim to asked) (subst (λ (c : ClaimNo). IsPlaced p c) (sym same) placed) is)))
     by_place (Some place) claim asked is = by_slot place (slice_get v.slots place) claim asked is refl
 
-    by_claim : (o : Option ClaimNo) → asked_claim mail ≡ o → LeadTo p (moves_in_slot v.machine.boot (slot_of_claim v o) mail judged reading) (with_startd machine (received_of v o mail judged reading) [] a)
+    by_claim : (o : Option ClaimNo) → asked_claim mail ≡ o → StayLinked p (moves_in_slot v.machine.boot (slot_of_claim v o) mail judged reading) (parts_with_startd machine (received_of v o mail judged reading) [] a)
     by_claim None asked = stays p a machine v nothing_done linked at (none_borne p)
     by_claim (Some claim) asked = by_place (place_of v claim.slot) claim asked refl

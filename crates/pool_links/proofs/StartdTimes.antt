@@ -25,9 +25,9 @@ use Rattle.startd_core.specs.TimeMoves.{moves_of_tick}
 use Rattle.startd_core.proofs.Stays.{tick_stays, reboot_stays}
 use Rattle.startd_core.proofs.Telling.{ticked_part, booted_part}
 use Rattle.startd_core.proofs.TimeRows.{boot_changes, boot_moves_may, slot_changes, slot_may}
-use Rattle.pool_links.specs.Linked.{AreBorneOut, IsEndReported, AreEndsReported, IsLinked, LeadTo, ended_of}
+use Rattle.pool_links.specs.Linked.{AreBorneOut, IsEndReported, AreEndsReported, IsLinked, StayLinked, ended_of}
 use Rattle.pool_links.specs.PoolParts.{PoolParts}
-use Rattle.pool_links.specs.StartdEvents.{moves_of_all, moves_of_boots, moves_of_ticks, with_startd}
+use Rattle.pool_links.specs.StartdEvents.{moves_of_all, moves_of_boots, moves_of_ticks, parts_with_startd}
 use Rattle.pool_links.proofs.Going.{goes_on, reported_on}
 use Rattle.pool_links.proofs.Kept.{in_both, startd_event}
 use Rattle.pool_links.proofs.Machines.{all_changed, all_far_from, all_may, in_place, sound_apart}
@@ -177,7 +177,7 @@ module _ (p : Protocol) (a : PoolParts) (machine : ℕ) (v : StartdValue) (linke
   parts : (s : Slot) → IsIn s v.slots → IsPart p (part_of v.machine.boot s)
   parts s there = linked.slots.each (part_of v.machine.boot s) (in_pool a.startds machine v s at there)
 
-  pub tick_linked : (reading : ℕ) → LeadTo p (moves_of_ticks v reading) (with_startd machine (after_tick v reading) [] a)
+  pub tick_linked : (reading : ℕ) → StayLinked p (moves_of_ticks v reading) (parts_with_startd machine (after_tick v reading) [] a)
   tick_linked reading =
       let moves : Slot → List ProtocolMove = λ s. moves_of_tick (slot_row s v.settings reading) s.state in
       let ms : List ProtocolMove = moves_of_ticks v reading in
@@ -199,7 +199,7 @@ module _ (p : Protocol) (a : PoolParts) (machine : ℕ) (v : StartdValue) (linke
       (ticks_borne (protocol_after_all p ms) v v.slots reading (no_ticks v.offers) (none_borne (protocol_after_all p ms)))
       quiet.1
 
-  pub boot_linked : (reading : ℕ) → LeadTo p (moves_of_boots v) (with_startd machine (after_reboot v reading) [] a)
+  pub boot_linked : (reading : ℕ) → StayLinked p (moves_of_boots v) (parts_with_startd machine (after_reboot v reading) [] a)
   boot_linked reading =
       let next : ℕ = v.machine.boot + 1 in
       let moves : Slot → List ProtocolMove = moves_of_boot next in

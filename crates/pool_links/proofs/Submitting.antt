@@ -24,9 +24,9 @@ use Rattle.schedd_core.specs.JobStates.{ShowsEntry, ShowsJob, ShowsJobs}
 use Rattle.schedd_core.specs.Reopening.{is_under_at, is_under_kind, under_by}
 use Rattle.schedd_core.specs.ScheddParts.{Fits, IsMarked, IsPart}
 use Rattle.schedd_core.proofs.FitsAfter.{run_is_under}
-use Rattle.pool_links.specs.Linked.{BringsJobs, IsPlaced, IsFinishedAs, AwaitsJobs, AwaitsNothing, IsLinked, LeadTo, job_in}
+use Rattle.pool_links.specs.Linked.{BringsJobs, IsPlaced, IsFinishedAs, AwaitsJobs, AwaitsNothing, IsLinked, StayLinked, new_job_id}
 use Rattle.pool_links.specs.PoolParts.{PoolParts}
-use Rattle.pool_links.specs.ScheddEvents.{AreNewJobs, IsNotAmong, with_jobs, with_submission}
+use Rattle.pool_links.specs.ScheddEvents.{AreNewJobs, IsNotAmong, parts_with_jobs, parts_with_submission}
 use Rattle.pool_links.proofs.Going.{GoesOn, goes_on}
 use Rattle.pool_links.proofs.Kept.{in_both, in_first, in_second}
 use Rattle.pool_links.proofs.ScheddKept.{AreOffSlots, KeepsSaid, commit_said, nothing_more, schedd_event}
@@ -257,7 +257,7 @@ pub record Confirms (p q : Protocol) (jobs : List NewJob) : Type 0 where
   pub removals : q.removals ≡ p.removals
   pub grants : q.grants ≡ p.grants
   pub pending : q.pending ≡ p.pending
-  pub acked : SameMembers q.pool.acked (map job_in jobs ++ p.pool.acked)
+  pub acked : SameMembers q.pool.acked (map new_job_id jobs ++ p.pool.acked)
 
 confirmed : (p : Protocol) (jobs : List NewJob) → Confirms p (protocol_after_all p (map confirm_move jobs)) jobs × AreOffSlots (map confirm_move jobs)
 confirmed p [] = (record { jobs_are = refl; next = refl; moment = refl; ordered = refl; reports = refl; removals = refl; grants = refl; pending = refl; acked = λ k. (λ there. there, λ there. there) }, tt)
@@ -272,34 +272,34 @@ confirmed p (j ∷ js) =
         removals = rest.0.removals;
         grants = rest.0.grants;
         pending = rest.0.pending;
-        acked = λ k. (λ there. to k (in_both k (map job_in js) (j.job ∷ p.pool.acked) ((rest.0.acked k).0 there)), λ there. (rest.0.acked k).1 (back k there));
+        acked = λ k. (λ there. to k (in_both k (map new_job_id js) (j.job ∷ p.pool.acked) ((rest.0.acked k).0 there)), λ there. (rest.0.acked k).1 (back k there));
       },
       (tt, rest.1),
     )
   where
-    to : (k : JobId) → IsIn k (map job_in js) ⊎ IsIn k (j.job ∷ p.pool.acked) → IsIn k (j.job ∷ (map job_in js ++ p.pool.acked))
-    to k (inl there) = inr (in_first k (map job_in js) p.pool.acked there)
+    to : (k : JobId) → IsIn k (map new_job_id js) ⊎ IsIn k (j.job ∷ p.pool.acked) → IsIn k (j.job ∷ (map new_job_id js ++ p.pool.acked))
+    to k (inl there) = inr (in_first k (map new_job_id js) p.pool.acked there)
     to k (inr (inl same)) = inl same
-    to k (inr (inr there)) = inr (in_second k (map job_in js) p.pool.acked there)
+    to k (inr (inr there)) = inr (in_second k (map new_job_id js) p.pool.acked there)
 
-    mid : (k : JobId) → IsIn k (map job_in js) ⊎ IsIn k p.pool.acked → IsIn k (map job_in js ++ (j.job ∷ p.pool.acked))
-    mid k (inl h) = in_first k (map job_in js) (j.job ∷ p.pool.acked) h
-    mid k (inr h) = in_second k (map job_in js) (j.job ∷ p.pool.acked) (inr h)
+    mid : (k : JobId) → IsIn k (map new_job_id js) ⊎ IsIn k p.pool.acked → IsIn k (map new_job_id js ++ (j.job ∷ p.pool.acked))
+    mid k (inl h) = in_first k (map new_job_id js) (j.job ∷ p.pool.acked) h
+    mid k (inr h) = in_second k (map new_job_id js) (j.job ∷ p.pool.acked) (inr h)
 
-    back : (k : JobId) → IsIn k (j.job ∷ (map job_in js ++ p.pool.acked)) → IsIn k (map job_in js ++ (j.job ∷ p.pool.acked))
-    back k (inl same) = in_second k (map job_in js) (j.job ∷ p.pool.acked) (inl same)
-    back k (inr there) = mid k (in_both k (map job_in js) p.pool.acked there)
+    back : (k : JobId) → IsIn k (j.job ∷ (map new_job_id js ++ p.pool.acked)) → IsIn k (map new_job_id js ++ (j.job ∷ p.pool.acked))
+    back k (inl same) = in_second k (map new_job_id js) (j.job ∷ p.pool.acked) (inl same)
+    back k (inr there) = mid k (in_both k (map new_job_id js) p.pool.acked there)
 
 pub same_members_on : {A : Type 0} (xs ys zs : List A) → SameMembers xs ys → SameMembers ys zs → SameMembers xs zs
 same_members_on xs ys zs a b k = (λ there. (b k).0 ((a k).0 there), λ there. (a k).1 ((b k).1 there))
 
 pub jobs_logged : (p : Protocol) (a : PoolParts) (ids : List JobId) (tx : List Operation) (new : KeyedAds) → (linked : IsLinked p a) (w : AwaitsJobs p a ids tx) → queue_after a.queue tx ≡ Ok new
-    → LeadTo p (Commit ∷ map confirm_move w.jobs) (with_jobs ids new a)
-jobs_logged p a ids tx new linked w h = schedd_event p a (with_jobs ids new a) ms linked may (tt, c.1) refl (record {
+    → StayLinked p (Commit ∷ map confirm_move w.jobs) (parts_with_jobs ids new a)
+jobs_logged p a ids tx new linked w h = schedd_event p a (parts_with_jobs ids new a) ms linked may (tt, c.1) refl (record {
   moment = c.0.moment ∙ (said.moment ∙ linked.moment);
   acked = subst (λ xs. SameMembers q.pool.acked (xs ++ a.acked)) w.named
-      (same_members_on q.pool.acked (map job_in w.jobs ++ x.pool.acked) (map job_in w.jobs ++ a.acked) c.0.acked
-      (Rattle.pool_links.proofs.Kept.same_with (map job_in w.jobs) x.pool.acked a.acked (subst (λ xs. SameMembers xs a.acked) (sym said.acked) linked.acked)));
+      (same_members_on q.pool.acked (map new_job_id w.jobs ++ x.pool.acked) (map new_job_id w.jobs ++ a.acked) c.0.acked
+      (Rattle.pool_links.proofs.Kept.same_with (map new_job_id w.jobs) x.pool.acked a.acked (subst (λ xs. SameMembers xs a.acked) (sym said.acked) linked.acked)));
   ordered = subst (λ xs. SameMembers xs a.ordered) (sym (c.0.ordered ∙ said.ordered)) linked.ordered;
   reports = subst (λ xs. SameMembers xs a.reports) (sym (c.0.reports ∙ said.reports)) linked.reports;
   schedd = record {
@@ -341,12 +341,12 @@ jobs_logged p a ids tx new linked w h = schedd_event p a (with_jobs ids new a) m
     part = part_then p a ids tx new linked w h
 
 -- ---- a submission is handed to the log
-not_among : (job : JobId) (jobs : List NewJob) → IsNotAmong job (map job_in jobs) → IsNone job jobs
+not_among : (job : JobId) (jobs : List NewJob) → IsNotAmong job (map new_job_id jobs) → IsNone job jobs
 not_among job [] far j there is = absurd there
 not_among job (y ∷ ys) far j (inl same) is = far.0 (is ∙ ap (λ (z : NewJob). z.job) same)
 not_among job (y ∷ ys) far j (inr there) is = not_among job ys far.1 j there is
 
-pub new_jobs : (jobs : JobId → Option Entry) (q : KeyedAds) (finished : JobId → Option Entry) (js : List NewJob) → AreNewJobs q finished (map job_in js) → ((j : NewJob) → IsIn j js → ad_at (Proc j.job) q ≡ None → finished j.job ≡ None → jobs j.job ≡ None) → AreNew jobs js
+pub new_jobs : (jobs : JobId → Option Entry) (q : KeyedAds) (finished : JobId → Option Entry) (js : List NewJob) → AreNewJobs q finished (map new_job_id js) → ((j : NewJob) → IsIn j js → ad_at (Proc j.job) q ≡ None → finished j.job ≡ None → jobs j.job ≡ None) → AreNew jobs js
 new_jobs jobs q finished [] new none = tt
 new_jobs jobs q finished (j ∷ js) new none = (
   none j (inl refl) new.0 new.1,
@@ -354,9 +354,9 @@ new_jobs jobs q finished (j ∷ js) new none = (
       (λ k there no_ad no_end. set_cases jobs j k.job (λ o. o ≡ None) (λ same. absurd (not_among j.job js new.2 k there same)) (λ far. none k (inr there) no_ad no_end)),
 )
 
-pub jobs_submitted : (p : Protocol) (a : PoolParts) (jobs : List NewJob) (tx : List Operation) → IsLinked p a → a.awaited ≡ None → AreNewJobs a.queue a.finished (map job_in jobs)
-    → ((new : KeyedAds) → queue_after a.queue tx ≡ Ok new → BringsJobs a.queue jobs new) → LeadTo p (Pend (Submission jobs) ∷ []) (with_submission (map job_in jobs) tx a)
-jobs_submitted p a jobs tx linked idle new brings = schedd_event p a (with_submission (map job_in jobs) tx a) (Pend (Submission jobs) ∷ []) linked ((before.change, are_new), tt) (tt, tt) refl (record {
+pub jobs_submitted : (p : Protocol) (a : PoolParts) (jobs : List NewJob) (tx : List Operation) → IsLinked p a → a.awaited ≡ None → AreNewJobs a.queue a.finished (map new_job_id jobs)
+    → ((new : KeyedAds) → queue_after a.queue tx ≡ Ok new → BringsJobs a.queue jobs new) → StayLinked p (Pend (Submission jobs) ∷ []) (parts_with_submission (map new_job_id jobs) tx a)
+jobs_submitted p a jobs tx linked idle new brings = schedd_event p a (parts_with_submission (map new_job_id jobs) tx a) (Pend (Submission jobs) ∷ []) linked ((before.change, are_new), tt) (tt, tt) refl (record {
   moment = linked.moment;
   acked = linked.acked;
   ordered = linked.ordered;

@@ -25,7 +25,7 @@ use Rattle.schedd_core.specs.JobStates.{ShowsEntry, ShowsJob, ShowsJobs, ShowsSt
 use Rattle.schedd_core.specs.ScheddParts.{IsPart}
 use Rattle.schedd_core.proofs.PlanAds.{run_kind}
 use Rattle.schedd_core.proofs.PlanMay.{stands_under}
-use Rattle.pool_links.specs.Linked.{AreBorneOut, AreStartds, IsFinishedAs, IsLinked, LeadTo}
+use Rattle.pool_links.specs.Linked.{AreBorneOut, AreStartds, IsFinishedAs, IsLinked, StayLinked}
 use Rattle.pool_links.specs.PoolParts.{PoolParts, pool_parts}
 use Rattle.pool_links.specs.Shown.{IsKnown, LeftRightly, SameParts, ShowsPool}
 use Rattle.pool_links.proofs.Going.{after_append, goes_on, may_append}
@@ -122,7 +122,7 @@ linked_shows p a linked = record {
   slots = shown p (pool_parts a.startds) linked.slots;
 }
 
-with_view : (p : Protocol) (v : AbstractPool) → SameView p.pool v → SameProtocol p (record p { pool = v })
+pub with_view : (p : Protocol) (v : AbstractPool) → SameView p.pool v → SameProtocol p (record p { pool = v })
 with_view p v same = record {
   pool = same;
   grants = λ x. (λ there. there, λ there. there);
@@ -133,7 +133,7 @@ with_view p v same = record {
 }
 
 -- moves lead from the pool of the one to any that the parts of the other show
-pub steps_lead : (p : Protocol) (a b : PoolParts) (ms : List ProtocolMove) (w : AbstractPool) → IsLinked p a → LeadTo p ms b → ShowsPool b w → Takes p.pool (all_steps p ms) w × Safe w
+pub steps_lead : (p : Protocol) (a b : PoolParts) (ms : List ProtocolMove) (w : AbstractPool) → IsLinked p a → StayLinked p ms b → ShowsPool b w → Takes p.pool (all_steps p ms) w × Safe w
 steps_lead p a b ms w linked leads shows =
     let q : Protocol = protocol_after_all p ms in
     let same = one_view b q.pool w (linked_shows q b leads.linked) shows in
@@ -175,7 +175,7 @@ left_rightly p a job linked = by (a.finished job) refl
     by (Some e) is = by_ad e (ad_at (Proc job) a.queue) (subst (λ o. IsFinishedAs (ad_at (Proc job) a.queue) o (p.pool.jobs job)) is (linked.finished job)) (linked.schedd.jobs job) (linked.safe.endings_said job)
 
 -- ---- events one after the other
-pub lead_on : (p : Protocol) (ms ns : List ProtocolMove) (b c : PoolParts) → LeadTo p ms b → LeadTo (protocol_after_all p ms) ns c → LeadTo p (ms ++ ns) c
+pub lead_on : (p : Protocol) (ms ns : List ProtocolMove) (b c : PoolParts) → StayLinked p ms b → StayLinked (protocol_after_all p ms) ns c → StayLinked p (ms ++ ns) c
 lead_on p ms ns b c first second = record {
   may = may_append p ms ns first.may second.may;
   linked = subst (λ q. IsLinked q c) (sym (after_append p ms ns)) second.linked;

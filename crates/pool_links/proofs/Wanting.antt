@@ -6,9 +6,9 @@ use Rattle.pool_mail.specs.declared.mail.Mail.TheVariants as mail
 use Rattle.pool_view.specs.AbstractPool.{IsIn}
 use Rattle.pool_protocol.specs.Protocol.{Protocol}
 use Rattle.startd_slot.specs.declared.slot.Slot.{Slot}
-use Rattle.pool_links.specs.Linked.{IsBorneOut, IsLinked, LeadTo}
+use Rattle.pool_links.specs.Linked.{IsBorneOut, IsLinked, StayLinked}
 use Rattle.pool_links.specs.PoolParts.{PoolParts, slot_in_pool}
-use Rattle.pool_links.specs.Wanted.{IsWanted, with_mails}
+use Rattle.pool_links.specs.Wanted.{IsWanted, parts_with_mails}
 use Rattle.pool_links.proofs.ScheddKept.{mails_linked}
 use Rattle.pool_links.proofs.StartdMails.{found_placed}
 
@@ -36,5 +36,5 @@ wanted_borne p a (mail.Release claim) linked wanted = absurd wanted
 wanted_borne p a (mail.Gone run kept) linked wanted = absurd wanted
 wanted_borne p a (mail.Ended run how) linked wanted = absurd wanted
 
-pub wanted_linked : (p : Protocol) (a : PoolParts) (mails : List Mail) → IsLinked p a → ((m : Mail) → IsIn m mails → IsWanted a.startds m) → LeadTo p [] (with_mails mails a)
+pub wanted_linked : (p : Protocol) (a : PoolParts) (mails : List Mail) → IsLinked p a → ((m : Mail) → IsIn m mails → IsWanted a.startds m) → StayLinked p [] (parts_with_mails mails a)
 wanted_linked p a mails linked wanted = mails_linked p a mails linked (λ m there. wanted_borne p a m linked (wanted m there))

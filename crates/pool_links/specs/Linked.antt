@@ -97,14 +97,14 @@ pub record BringsJobs (q : KeyedAds) (jobs : List NewJob) (new : KeyedAds) : Typ
   pub others : (job : JobId) → ((j : NewJob) → IsIn j jobs → job ≡ j.job → ⊥)
       → ad_at (Proc job) new ≡ ad_at (Proc job) q
 
-abbrev pub job_in : NewJob → JobId
-job_in j = j.job
+abbrev pub new_job_id : NewJob → JobId
+new_job_id j = j.job
 
 -- a submission
 pub record AwaitsJobs (p : Protocol) (a : PoolParts) (ids : List JobId) (tx : List Operation)
     : Type 0 where
   pub jobs : List NewJob
-  pub named : map job_in jobs ≡ ids
+  pub named : map new_job_id jobs ≡ ids
   pub change : p.pending ≡ Some (Submission jobs)
   pub brings : (new : KeyedAds) → queue_after a.queue tx ≡ Ok new → BringsJobs a.queue jobs new
   pub idle : a.schedd.waiting ≡ None
@@ -180,7 +180,7 @@ pub record IsLinked (p : Protocol) (a : PoolParts) : Type 0 where
 abbrev pub HoldTogether : PoolParts → Type 0
 HoldTogether a = (p : Protocol) × IsLinked p a
 
--- the moves may be made one after the other, and lead to the protocol of these parts
-pub record LeadTo (p : Protocol) (ms : List ProtocolMove) (a : PoolParts) : Type 0 where
+-- the moves may be made one after the other, and the parts are linked to the protocol after them
+pub record StayLinked (p : Protocol) (ms : List ProtocolMove) (a : PoolParts) : Type 0 where
   pub may : MayAll p ms
   pub linked : IsLinked (protocol_after_all p ms) a

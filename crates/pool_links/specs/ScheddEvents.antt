@@ -34,8 +34,8 @@ planned_by (Some p) = Some (Planned p)
 
 -- the schedd stands so, has sent mails, and may have planned something; jobs were ordered to be
 -- removed
-abbrev pub with_schedd : ScheddValue → ScheddStep → List JobId → PoolParts → PoolParts
-with_schedd v step orders a = record a {
+abbrev pub parts_with_schedd : ScheddValue → ScheddStep → List JobId → PoolParts → PoolParts
+parts_with_schedd v step orders a = record a {
   schedd = v;
   mails = a.mails ++ step.mails;
   awaited = planned_by step.plan;
@@ -71,8 +71,8 @@ abbrev pub is_known : PoolParts → JobId → Bool
 is_known a job = is_known_by (ad_at (Proc job) a.queue) (a.finished job)
 
 -- the moves of a mail
-abbrev pub moves_of_word : Jobs → PoolParts → Mail → ℕ → List ProtocolMove
-moves_of_word jobs a m reading = map TakeOrder (late_order a.finished m)
+abbrev pub moves_of_schedd_mail : Jobs → PoolParts → Mail → ℕ → List ProtocolMove
+moves_of_schedd_mail jobs a m reading = map TakeOrder (late_order a.finished m)
     ++ moves_of_mail jobs a.schedd a.queue m reading
 
 -- ---- what was awaited is logged
@@ -104,8 +104,8 @@ Finishes (plan.Remove job) q old new = TakesOut (plan.Remove job) job q old new
 Finishes _ q old new = new ≡ old
 
 -- a plan is logged, with the queue that came of it
-abbrev pub with_plan : JobPlan → KeyedAds → (JobId → Option Entry) → PoolParts → PoolParts
-with_plan p new finished a = record a {
+abbrev pub parts_with_plan : JobPlan → KeyedAds → (JobId → Option Entry) → PoolParts → PoolParts
+parts_with_plan p new finished a = record a {
   schedd = after_plan p a.schedd;
   queue = new;
   mails = a.mails ++ mails_of_plan a.schedd new p;
@@ -114,17 +114,17 @@ with_plan p new finished a = record a {
 }
 
 -- a submission is logged, and its jobs are acknowledged
-abbrev pub with_jobs : List JobId → KeyedAds → PoolParts → PoolParts
-with_jobs ids new a = record a {
+abbrev pub parts_with_jobs : List JobId → KeyedAds → PoolParts → PoolParts
+parts_with_jobs ids new a = record a {
   queue = new;
   awaited = None;
   acked = ids ++ a.acked;
 }
 
 -- ---- the schedd comes back
-abbrev pub with_back
+abbrev pub parts_with_return
     : ScheddValue → KeyedAds → (JobId → Option Entry) → PoolParts → PoolParts
-with_back v new finished a =
+parts_with_return v new finished a =
     record a { schedd = v; queue = new; awaited = None; finished = finished }
 
 -- ---- a submission
@@ -139,5 +139,5 @@ AreNewJobs q finished [] = Unit {0}
 AreNewJobs q finished (job ∷ jobs) = (ad_at (Proc job) q ≡ None) × (finished job ≡ None)
     × IsNotAmong job jobs × AreNewJobs q finished jobs
 
-abbrev pub with_submission : List JobId → List Operation → PoolParts → PoolParts
-with_submission ids tx a = record a { awaited = Some (NewJobs ids tx) }
+abbrev pub parts_with_submission : List JobId → List Operation → PoolParts → PoolParts
+parts_with_submission ids tx a = record a { awaited = Some (NewJobs ids tx) }

@@ -17,12 +17,12 @@ use Rattle.startd_core.specs.TimeMoves.{moves_of_tick}
 use Rattle.pool_links.specs.PoolParts.{PoolParts}
 
 -- a later reading was taken
-abbrev pub at_reading : ℕ → PoolParts → PoolParts
-at_reading reading a = record a { moment = max a.moment reading }
+abbrev pub parts_at_reading : ℕ → PoolParts → PoolParts
+parts_at_reading reading a = record a { moment = max a.moment reading }
 
 -- the startd of a machine stands so, has sent mails, and has said the ends of runs
-abbrev pub with_startd : ℕ → After → List EndReport → PoolParts → PoolParts
-with_startd machine after reports a = record a {
+abbrev pub parts_with_startd : ℕ → After → List EndReport → PoolParts → PoolParts
+parts_with_startd machine after reports a = record a {
   startds = slice_set a.startds machine after.startd;
   mails = a.mails ++ after.step.mails;
   reports = reports ++ a.reports;
@@ -34,22 +34,22 @@ moves_in_slot boot None mail judged reading = []
 moves_in_slot boot (Some slot) mail judged reading = moves_of_mail boot slot mail judged reading
 
 -- those of the slot of which it speaks
-abbrev pub moves_of_received : StartdValue → Mail → Option Judgement → ℕ → List ProtocolMove
-moves_of_received v mail judged reading =
+abbrev pub moves_of_startd_mail : StartdValue → Mail → Option Judgement → ℕ → List ProtocolMove
+moves_of_startd_mail v mail judged reading =
     moves_in_slot v.machine.boot (slot_of_claim v (asked_claim mail)) mail judged reading
 
 -- ---- the end of a run
 -- that of the run that is there
-abbrev pub report_of : Option Running → Ending → List EndReport
-report_of None ending = []
-report_of (Some r) ending = record {
+abbrev pub end_report_of : Option Running → Ending → List EndReport
+end_report_of None ending = []
+end_report_of (Some r) ending = record {
   run = r.run;
   job = r.job;
   how = how_of ending.end r.mark;
 } ∷ []
 
 abbrev pub report_where : Bool → Slot → Ending → List EndReport
-report_where here slot ending = if here then report_of (running_of slot.state) ending else []
+report_where here slot ending = if here then end_report_of (running_of slot.state) ending else []
 
 abbrev pub reports_in_slot : Option Slot → Ending → List EndReport
 reports_in_slot None ending = []
@@ -65,8 +65,8 @@ abbrev pub ends_in_slot : Option Slot → Ending → List ProtocolMove
 ends_in_slot None ending = []
 ends_in_slot (Some slot) ending = ends_where (runs_on slot.state ending.run) slot ending
 
-abbrev pub moves_of_ended : StartdValue → Ending → List ProtocolMove
-moves_of_ended v ending = ends_in_slot (slot_of v ending.run.claim.slot) ending
+abbrev pub moves_of_ended_run : StartdValue → Ending → List ProtocolMove
+moves_of_ended_run v ending = ends_in_slot (slot_of v ending.run.claim.slot) ending
 
 -- ---- ticks and boots
 -- the slots move one after the other

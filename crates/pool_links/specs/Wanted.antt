@@ -15,5 +15,5 @@ IsWanted vs (mail.Hold job) = Unit {0}
 IsWanted vs (mail.Resume job) = Unit {0}
 IsWanted vs _ = ⊥
 
-abbrev pub with_mails : List Mail → PoolParts → PoolParts
-with_mails mails a = record a { mails = a.mails ++ mails }
+abbrev pub parts_with_mails : List Mail → PoolParts → PoolParts
+parts_with_mails mails a = record a { mails = a.mails ++ mails }

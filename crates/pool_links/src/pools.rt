@@ -8,10 +8,10 @@ ghost use Rattle.pool_protocol.specs.ProtocolMove.{ProtocolMove, all_steps, prot
 ghost use Rattle.pool_view.specs.AbstractPool.{AbstractPool, IsIn, SameView};
 ghost use Rattle.pool_view.specs.AbstractStep.{Takes};
 ghost use Rattle.pool_view.specs.Safe.{Safe};
-ghost use Rattle.pool_links.specs.Linked.{HoldTogether, IsLinked, LeadTo};
+ghost use Rattle.pool_links.specs.Linked.{HoldTogether, IsLinked, StayLinked};
 ghost use Rattle.pool_links.specs.PoolParts.{PoolParts};
 ghost use Rattle.pool_links.specs.Openings.{IsOpeningPool};
-ghost use Rattle.pool_links.specs.Wanted.{IsWanted, with_mails};
+ghost use Rattle.pool_links.specs.Wanted.{IsWanted, parts_with_mails};
 ghost use Rattle.pool_links.specs.Shown.{IsKnown, LeftRightly, SameParts, ShowsPool};
 
 /// The parts of a pool that has just been opened are linked to a protocol.
@@ -24,14 +24,15 @@ pub fn openings_are_linked()
 pub fn sent_mails_keep_links()
     ensures { (p : Protocol) (a : PoolParts) (mails : List Mail) → IsLinked p a
         → ((mail : Mail) → IsIn mail mails → IsWanted a.startds mail)
-        → LeadTo p [] (with_mails mails a) }
+        → StayLinked p [] (parts_with_mails mails a) }
 {}
 
 /// Events go on from one another. Parts that have the same mails, jobs and reports in another order
 /// are linked alike.
 pub fn links_go_on()
     ensures events { (p : Protocol) (ms ns : List ProtocolMove) (b c : PoolParts)
-        → LeadTo p ms b → LeadTo (protocol_after_all p ms) ns c → LeadTo p (ms ++ ns) c }
+        → StayLinked p ms b → StayLinked (protocol_after_all p ms) ns c
+        → StayLinked p (ms ++ ns) c }
     ensures same { (p : Protocol) (a b : PoolParts) → SameParts a b → IsLinked p a
         → IsLinked p b }
 {}
@@ -45,8 +46,15 @@ pub fn linked_pools_are_safe()
     ensures safe { (p : Protocol) (a : PoolParts) (v : AbstractPool) → IsLinked p a
         → ShowsPool a v → Safe v }
     ensures steps { (p : Protocol) (a b : PoolParts) (ms : List ProtocolMove)
-        (w : AbstractPool) → IsLinked p a → LeadTo p ms b → ShowsPool b w
+        (w : AbstractPool) → IsLinked p a → StayLinked p ms b → ShowsPool b w
         → Takes p.pool (all_steps p ms) w }
+{}
+
+/// Parts are linked to the protocol with any abstract pool that they show in place of its own: so a
+/// pool takes the one that it makes of itself.
+pub fn shown_pools_are_linked()
+    ensures { (p : Protocol) (a : PoolParts) (v : AbstractPool) → IsLinked p a → ShowsPool a v
+        → IsLinked (record p { pool = v }) a }
 {}
 
 /// An acknowledged job stays in the queue until it leaves it, and it leaves it only by the end of a

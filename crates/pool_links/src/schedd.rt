@@ -21,9 +21,9 @@ ghost use Rattle.schedd_core.specs.Reopening.{IsReader};
 ghost use Rattle.schedd_core.specs.Rows.{after_mail};
 ghost use Rattle.schedd_core.specs.Schedds.{ScheddValue};
 ghost use Rattle.schedd_core.specs.Ticks.{IsTicked};
-ghost use Rattle.pool_links.specs.Linked.{BringsJobs, IsLinked, LeadTo, job_in};
+ghost use Rattle.pool_links.specs.Linked.{BringsJobs, IsLinked, StayLinked, new_job_id};
 ghost use Rattle.pool_links.specs.PoolParts.{NewJobs, Planned, PoolParts};
-ghost use Rattle.pool_links.specs.ScheddEvents.{AreNewJobs, Finishes, is_known, job_removed, moves_of_word, orders_of_mail, with_back, with_jobs, with_plan, with_schedd, with_submission};
+ghost use Rattle.pool_links.specs.ScheddEvents.{AreNewJobs, Finishes, is_known, job_removed, moves_of_schedd_mail, orders_of_mail, parts_with_return, parts_with_jobs, parts_with_plan, parts_with_schedd, parts_with_submission};
 
 /// A schedd that receives a mail, ticks, or looks at the periodic expressions of a job, while
 /// nothing is unfinished, keeps the links, by the moves that are named for what it plans. An order
@@ -31,19 +31,20 @@ ghost use Rattle.pool_links.specs.ScheddEvents.{AreNewJobs, Finishes, is_known, 
 pub fn plans_keep_links()
     ensures mails { (p : Protocol) (a : PoolParts) (mail : Mail) (reading : ℕ) → IsLinked p a
         → a.awaited ≡ None → IsIn mail a.mails
-        → LeadTo p (moves_of_word p.pool.jobs a mail reading)
-        (with_schedd (after_mail a.schedd a.queue mail reading).schedd
+        → StayLinked p (moves_of_schedd_mail p.pool.jobs a mail reading)
+        (parts_with_schedd (after_mail a.schedd a.queue mail reading).schedd
         (after_mail a.schedd a.queue mail reading).step (orders_of_mail a mail reading) a) }
     ensures orders { (p : Protocol) (a : PoolParts) (job : JobId) (reading : ℕ) → IsLinked p a
         → orders_of_mail a (Remove job) reading ≡ (if is_known a job then job ∷ [] else []) }
     ensures ticks { (p : Protocol) (a : PoolParts) (new : ScheddValue) (step : ScheddStep)
         (reading : ℕ) → IsLinked p a → a.awaited ≡ None → reading ≤ a.moment
         → IsTicked a.schedd a.queue reading new step
-        → LeadTo p (pends p.pool.jobs step.plan) (with_schedd new step [] a) }
+        → StayLinked p (pends p.pool.jobs step.plan) (parts_with_schedd new step [] a) }
     ensures checks { (p : Protocol) (a : PoolParts) (job : JobId) (reading : ℕ) → IsLinked p a
         → a.awaited ≡ None
-        → LeadTo p (moves_of_order p.pool.jobs (after_check a.schedd a.queue job reading).step.plan)
-        (with_schedd (after_check a.schedd a.queue job reading).schedd
+        → StayLinked p
+        (moves_of_order p.pool.jobs (after_check a.schedd a.queue job reading).step.plan)
+        (parts_with_schedd (after_check a.schedd a.queue job reading).schedd
         (after_check a.schedd a.queue job reading).step
         (job_removed (after_check a.schedd a.queue job reading).step.plan) a) }
 {}
@@ -51,9 +52,10 @@ pub fn plans_keep_links()
 /// A submission of new jobs, while nothing is unfinished, keeps the links.
 pub fn submissions_keep_links()
     ensures { (p : Protocol) (a : PoolParts) (jobs : List NewJob) (tx : List Operation)
-        → IsLinked p a → a.awaited ≡ None → AreNewJobs a.queue a.finished (map job_in jobs)
+        → IsLinked p a → a.awaited ≡ None → AreNewJobs a.queue a.finished (map new_job_id jobs)
         → ((new : KeyedAds) → queue_after a.queue tx ≡ Ok new → BringsJobs a.queue jobs new)
-        → LeadTo p (Pend (Submission jobs) ∷ []) (with_submission (map job_in jobs) tx a) }
+        → StayLinked p (Pend (Submission jobs) ∷ [])
+        (parts_with_submission (map new_job_id jobs) tx a) }
 {}
 
 /// What was unfinished keeps the links once it is logged: a plan, which is committed and whose
@@ -63,12 +65,12 @@ pub fn logged_transactions_keep_links()
         (finished : JobId → Option Entry) → IsLinked p a → a.awaited ≡ Some (Planned plan)
         → queue_after a.queue (plan_ops plan) ≡ Ok new
         → Finishes plan a.queue a.finished finished
-        → LeadTo p (moves_of_logged a.schedd new plan) (with_plan plan new finished a) }
+        → StayLinked p (moves_of_logged a.schedd new plan) (parts_with_plan plan new finished a) }
     ensures jobs { (p : Protocol) (a : PoolParts) (ids : List JobId) (tx : List Operation)
         (new : KeyedAds) → IsLinked p a → a.awaited ≡ Some (NewJobs ids tx)
         → queue_after a.queue tx ≡ Ok new
-        → (jobs : List NewJob) × (map job_in jobs ≡ ids)
-        × LeadTo p (Commit ∷ map confirm_move jobs) (with_jobs ids new a) }
+        → (jobs : List NewJob) × (map new_job_id jobs ≡ ids)
+        × StayLinked p (Commit ∷ map confirm_move jobs) (parts_with_jobs ids new a) }
 {}
 
 /// A schedd that comes back keeps the links: with the plan or the submission that was unfinished,
@@ -80,14 +82,14 @@ pub fn returns_keep_links()
         (back : ScheddValue) (reading : ℕ) → IsLinked p a → a.awaited ≡ Some (Planned plan)
         → queue_after a.queue (plan_ops plan) ≡ Ok new
         → Finishes plan a.queue a.finished finished → IsReopened a.schedd new reading back
-        → LeadTo p (Commit ∷ []) (with_back back new finished a) }
+        → StayLinked p (Commit ∷ []) (parts_with_return back new finished a) }
     ensures jobs { (read : List ℕ → Option ClaimId) → IsReader read → (p : Protocol)
         (a : PoolParts) (ids : List JobId) (tx : List Operation) (new : KeyedAds)
         (back : ScheddValue) (reading : ℕ) → IsLinked p a → a.awaited ≡ Some (NewJobs ids tx)
         → queue_after a.queue tx ≡ Ok new → IsReopened a.schedd new reading back
-        → LeadTo p (Commit ∷ []) (with_back back new a.finished a) }
+        → StayLinked p (Commit ∷ []) (parts_with_return back new a.finished a) }
     ensures nothing { (read : List ℕ → Option ClaimId) → IsReader read → (p : Protocol)
         (a : PoolParts) (back : ScheddValue) (reading : ℕ) → IsLinked p a
         → IsReopened a.schedd a.queue reading back
-        → LeadTo p (Drop ∷ []) (with_back back a.queue a.finished a) }
+        → StayLinked p (Drop ∷ []) (parts_with_return back a.queue a.finished a) }
 {}

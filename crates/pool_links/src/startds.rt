@@ -15,15 +15,15 @@ ghost use Rattle.startd_slot.specs.SlotMoves.{IsJudgedHere};
 ghost use Rattle.startd_core.specs.Permits.{permit_in};
 ghost use Rattle.startd_core.specs.Startds.{StartdValue, after_end, after_mail, after_reboot, after_tick, slot_of_claim};
 ghost use Rattle.pool_links.specs.Launched.{IsPermitOf};
-ghost use Rattle.pool_links.specs.Linked.{IsLinked, LeadTo};
+ghost use Rattle.pool_links.specs.Linked.{IsLinked, StayLinked};
 ghost use Rattle.pool_links.specs.PoolParts.{PoolParts};
-ghost use Rattle.pool_links.specs.StartdEvents.{at_reading, moves_of_boots, moves_of_ended, moves_of_received, moves_of_ticks, reports_of_end, with_startd};
+ghost use Rattle.pool_links.specs.StartdEvents.{parts_at_reading, moves_of_boots, moves_of_ended_run, moves_of_startd_mail, moves_of_ticks, reports_of_end, parts_with_startd};
 
 /// A reading that is taken makes the moment the greater of both. It comes first in every event that
 /// has one.
 pub fn readings_keep_links()
     ensures { (p : Protocol) (a : PoolParts) (reading : ℕ) → IsLinked p a
-        → LeadTo p (PassTime (max a.moment reading) ∷ []) (at_reading reading a) }
+        → StayLinked p (PassTime (max a.moment reading) ∷ []) (parts_at_reading reading a) }
 {}
 
 /// A startd that receives a mail keeps the links, by the moves of the slot of which the mail
@@ -36,8 +36,8 @@ pub fn received_mails_keep_links()
         → IsIn (Startd machine) (receivers_of mail)
         → ((slot : Slot) → slot_of_claim v (asked_claim mail) ≡ Some slot
         → IfSome judged (IsJudgedHere slot mail))
-        → LeadTo p (moves_of_received v mail judged reading)
-        (with_startd machine (after_mail v mail judged reading) [] a) }
+        → StayLinked p (moves_of_startd_mail v mail judged reading)
+        (parts_with_startd machine (after_mail v mail judged reading) [] a) }
 {}
 
 /// What a startd launches is a run of the abstract pool after the event, which was started by a
@@ -45,11 +45,11 @@ pub fn received_mails_keep_links()
 pub fn launches_are_matched()
     ensures { (p : Protocol) (b : PoolParts) (v : StartdValue) (mail : Mail)
         (judged : Option Judgement) (reading : ℕ)
-        → LeadTo p (moves_of_received v mail judged reading) b
+        → StayLinked p (moves_of_startd_mail v mail judged reading) b
         → ((slot : Slot) → slot_of_claim v (asked_claim mail) ≡ Some slot
         → IfSome judged (IsJudgedHere slot mail))
         → IfSome (permit_in (after_mail v mail judged reading).step.answer)
-        (IsPermitOf (protocol_after_all p (moves_of_received v mail judged reading)).pool) }
+        (IsPermitOf (protocol_after_all p (moves_of_startd_mail v mail judged reading)).pool) }
 {}
 
 /// A startd in which the program of a run ends keeps the links too. The end is said of the job of
@@ -57,8 +57,8 @@ pub fn launches_are_matched()
 pub fn ended_runs_keep_links()
     ensures { (p : Protocol) (a : PoolParts) (machine : ℕ) (v : StartdValue) (ending : Ending)
         (reading : ℕ) → IsLinked p a → slice_get a.startds machine ≡ Some v
-        → LeadTo p (moves_of_ended v ending)
-        (with_startd machine (after_end v ending reading) (reports_of_end v ending) a) }
+        → StayLinked p (moves_of_ended_run v ending)
+        (parts_with_startd machine (after_end v ending reading) (reports_of_end v ending) a) }
 {}
 
 /// So does one for which time passes, and one whose machine boots, by the moves of its slots one
@@ -66,8 +66,10 @@ pub fn ended_runs_keep_links()
 pub fn ticks_and_boots_keep_links()
     ensures ticks { (p : Protocol) (a : PoolParts) (machine : ℕ) (v : StartdValue) (reading : ℕ)
         → IsLinked p a → slice_get a.startds machine ≡ Some v
-        → LeadTo p (moves_of_ticks v reading) (with_startd machine (after_tick v reading) [] a) }
+        → StayLinked p (moves_of_ticks v reading)
+        (parts_with_startd machine (after_tick v reading) [] a) }
     ensures boots { (p : Protocol) (a : PoolParts) (machine : ℕ) (v : StartdValue) (reading : ℕ)
         → IsLinked p a → slice_get a.startds machine ≡ Some v
-        → LeadTo p (moves_of_boots v) (with_startd machine (after_reboot v reading) [] a) }
+        → StayLinked p (moves_of_boots v)
+        (parts_with_startd machine (after_reboot v reading) [] a) }
 {}
