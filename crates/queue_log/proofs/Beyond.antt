@@ -1,5 +1,5 @@
 -- What a list that was read has beyond the roll.
-use Rattle.std.proofs.Common.{◌≡◌, ℕ, suc, ◌+◌, ◌<◌, ◌≤◌, List, [], ◌∷◌, ◌++◌, length, Option, Some, None, MatchOption, Result, Ok, Err, IfOk, IsSomeAnd, refl, ap, sym, ◌∙◌, arith, length-append}
+use Rattle.std.proofs.Common.{◌≡◌, ℕ, ◌+◌, ◌<◌, ◌≤◌, List, [], ◌∷◌, ◌++◌, length, Option, Some, None, MatchOption, Result, Ok, Err, IfOk, IsSomeAnd, refl, ap, sym, ◌∙◌, arith, length-append}
 use Rattle.queue_tx.specs.declared.error.ApplyError.{ApplyError}
 use Rattle.queue_tx.specs.Operations.{Operation}
 use Rattle.queue_tx.specs.Queues.{KeyedAds, QueueOf, after_rest, queue_after, queue_after_all}

@@ -1,9 +1,9 @@
 -- The text of a new log is read as its one transaction.
-use Rattle.std.proofs.Common.{◌≡◌, ◌≢◌, ℕ, ◌+◌, ◌<◌, ◌≤◌, ◌^◌, ◌==◌, ◌&&◌, not, codes, decimal, pos, Bool, true, false, cond, ltb, List, [], ◌∷◌, ◌++◌, length, Some, None, Ok, refl, ap, sym, ◌∙◌, subst, arith}
+use Rattle.std.proofs.Common.{◌≡◌, ◌≢◌, ℕ, ◌<◌, ◌≤◌, ◌^◌, ◌==◌, ◌&&◌, not, codes, decimal, pos, Bool, true, false, cond, ltb, List, [], ◌∷◌, ◌++◌, length, None, Ok, refl, ap, sym, ◌∙◌, subst, arith}
 use Rattle.std.specs.Char.{is_ascii_digit}
 use Rattle.std.specs.Int.{IsInRange}
 use Rattle.std.specs.List.{list_all}
-use Rattle.std.specs.Str.{IsAscii, IsUtf8}
+use Rattle.std.specs.Str.{IsAscii}
 use Rattle.std.proofs.lemmas.Bool.{ltb-true}
 use Rattle.std.proofs.lemmas.Bool.Decides.{nat_tests}
 use Rattle.std.proofs.lemmas.Fmt.{IsAscii-decimal, decimal_nonempty, digits_decimal, length-decimal-le}
@@ -24,8 +24,8 @@ use Rattle.queue_tx.specs.declared.names.TheConstants.{NEXT_CLUSTER_NUM, NEXT_RU
 use Rattle.queue_tx.specs.Operations.{Operation}
 use Rattle.queue_tx.specs.Queues.{KeyedAds, after_rest, queue_after}
 use Rattle.queue_record.specs.declared.error.RecordError.TheVariants.{TooLong}
-use Rattle.queue_record.specs.Entries.{stamped, entry_at, is_numeral}
-use Rattle.queue_record.specs.Reading.{Reading, start, refused, stamps, after_entry, kept_all, with_bytes, fed, HasNoNewline}
+use Rattle.queue_record.specs.Entries.{stamped, entry_at}
+use Rattle.queue_record.specs.Reading.{Reading, start, refused, stamps, after_entry, with_bytes, fed}
 use Rattle.queue_record.specs.Records.{Record}
 use Rattle.queue_record.specs.Texts.{AreTexts, first_long, tx_text}
 use Rattle.queue_record.specs.Logs.{Settles}

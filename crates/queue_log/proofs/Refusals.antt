@@ -1,5 +1,5 @@
 -- What becomes of the refusals of a log's parts.
-use Rattle.std.proofs.Common.{◌≡◌, ◌≤◌, ◌+◌, ◌-◌, ◌^◌, min, ℕ, refl, arith}
+use Rattle.std.proofs.Common.{◌≡◌, ◌≤◌, ℕ, refl, arith}
 use Rattle.pool_outer.specs.declared.limit.Which.TheVariants as which
 use Rattle.pool_outer.specs.declared.store.StoreError.{StoreError}
 use Rattle.pool_outer.specs.declared.store.StoreError.TheVariants as store

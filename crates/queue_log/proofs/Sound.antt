@@ -1,5 +1,5 @@
 -- Whatever is read builds its queue, which can be written.
-use Rattle.std.proofs.Common.{◌≡◌, ℕ, ◌==◌, Bool, true, false, cond, ltb, List, [], ◌∷◌, ◌++◌, length, Option, Some, None, Result, Ok, Err, IfSome, refl, sym, ◌∙◌, ap, subst}
+use Rattle.std.proofs.Common.{◌≡◌, ℕ, ◌==◌, Bool, true, false, cond, ltb, List, [], ◌∷◌, ◌++◌, length, Option, Some, None, Result, Ok, Err, IfSome, refl}
 use Rattle.queue_tx.specs.declared.error.ApplyError.{ApplyError}
 use Rattle.queue_tx.specs.Operations.{Operation, new_ad, destroy_ad, set_attr, delete_attr}
 use Rattle.queue_tx.specs.Queues.{KeyedAds, QueueOf, queue_after}
@@ -7,8 +7,8 @@ use Rattle.ad_parse.proofs.Reread.{again}
 use Rattle.queue_record.specs.declared.error.RecordError.{RecordError}
 use Rattle.queue_record.specs.declared.error.RecordError.TheVariants.{BadRecord, TooLong}
 use Rattle.queue_record.specs.Entries.{Entry, begins, ends, does, stamped, entry_at}
-use Rattle.queue_record.specs.Records.{SaysAfter, Record}
-use Rattle.queue_record.specs.Reading.{Reading, start, refused, refusal_of, counted, goes_on, stamps, takes_in, after_entry, after_line, in_line, after_byte, fed}
+use Rattle.queue_record.specs.Records.{SaysAfter}
+use Rattle.queue_record.specs.Reading.{Reading, start, refused, refusal_of, counted, takes_in, after_entry, after_line, in_line, after_byte, fed}
 use Rattle.queue_record.proofs.LogLemmas.{applies_push}
 use Rattle.queue_record.proofs.RecordLemmas.{read_is_record}
 use Rattle.queue_log.specs.Files.{IsSound}

@@ -1,7 +1,6 @@
 -- What is read of a log's file.
-use Rattle.std.specs.Prelude.{◌≡◌, ◌≢◌, ◌+◌, ◌≤◌, ◌<◌, ℕ, List, length, take, drop, Option, Some, None, IfSome}
+use Rattle.std.specs.Prelude.{◌≡◌, ℕ, List, take, drop, Some, None, IfSome}
 use Rattle.pool_outer.specs.Cause.{Rose}
-use Rattle.queue_tx.specs.Operations.{Operation}
 use Rattle.queue_tx.specs.Queues.{QueueOf}
 use Rattle.queue_record.specs.Reading.{Reading, start, fed}
 use Rattle.queue_record.specs.declared.reader.ReadLog.{ReadLog}

@@ -4,9 +4,8 @@ use Rattle.pool_outer.specs.declared.limit.Which.TheVariants.{LogLine, Roll}
 use Rattle.receipt_roll.specs.declared.roll.TheConstants.{MAX_ITEMS}
 use Rattle.receipt_roll.specs.Values.{RollMark, ReceiptValue}
 use Rattle.queue_tx.specs.Operations.{Operation}
-use Rattle.queue_tx.specs.Printable.{IsPrintable}
 use Rattle.queue_tx.specs.Queues.{KeyedAds, QueueOf, queue_after, with_changes}
-use Rattle.queue_record.specs.Texts.{AreTexts, first_long, tx_text}
+use Rattle.queue_record.specs.Texts.{first_long, tx_text}
 use Rattle.queue_log.specs.declared.error.LogError.{LogError}
 use Rattle.queue_log.specs.declared.error.LogError.TheVariants.{BadRecord, Limit, Disk, Memory}
 use Rattle.queue_log.specs.declared.logged.More.{More}

@@ -1,5 +1,5 @@
 -- A log that goes on with what its file has.
-use Rattle.std.specs.Prelude.{◌≡◌, ◌⊎◌, ◌≤◌, ◌<◌, ℕ, Bool, true, List, [], ◌∷◌, ◌++◌, length, take, Option, Some, None, IfSome}
+use Rattle.std.specs.Prelude.{◌≡◌, ◌⊎◌, ◌≤◌, ℕ, Bool, true, List, [], ◌∷◌, ◌++◌, length, take, Option, Some, None, IfSome}
 use Rattle.pool_outer.specs.Cause.{Rose}
 use Rattle.pool_outer.specs.declared.limit.Which.TheVariants.{Roll}
 use Rattle.receipt_roll.specs.declared.roll.TheConstants.{MAX_ITEMS}

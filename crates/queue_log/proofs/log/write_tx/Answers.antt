@@ -1,10 +1,9 @@
-use Rattle.std.proofs.Common.{◌≡◌, ◌∙◌, ◌≤◌, ◌++◌, ◌∷◌, [], List, ℕ, arith, ap, sym, subst, take, length}
+use Rattle.std.proofs.Common.{◌≡◌, ◌∙◌, ◌++◌, List, ℕ, arith, ap, subst, take}
 use Rattle.std.specs.Str.{IsUtf8}
 use Rattle.pool_outer.specs.Files.{bytes_in}
 use Rattle.solid_file.specs.Moments.{IsReached, LeavesOnly}
 use Rattle.solid_file.proofs.Moments.{weaker}
-use Rattle.queue_tx.specs.Queues.{KeyedAds, queue_after}
-use Rattle.queue_record.specs.Texts.{AreTexts, tx_text}
+use Rattle.queue_record.specs.Texts.{tx_text}
 use Rattle.queue_log.specs.Logs.{IsPending}
 use Rattle.queue_log.specs.Stands.{IsBeforeOrAfter}
 use Rattle.queue_log.proofs.Results.{on_ok2}

@@ -1,4 +1,4 @@
-use Rattle.std.proofs.Common.{◌≡◌, ◌<◌, ◌^◌, ℕ, List, true, length, arith}
+use Rattle.std.proofs.Common.{arith}
 use Rattle.queue_log.proofs.Pieces.{size_of}
 use Rattle.queue_log.proofs.read.read_log.Goals as goal
 

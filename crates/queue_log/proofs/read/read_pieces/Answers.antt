@@ -1,6 +1,5 @@
-use Rattle.std.proofs.Common.{◌≡◌, ◌∙◌, ◌≤◌, ◌<◌, ◌+◌, ◌-◌, ◌^◌, min, ℕ, List, true, Some, length, take, drop, refl, sym, ap, subst, arith, rules}
+use Rattle.std.proofs.Common.{◌≡◌, ◌∙◌, ◌≤◌, ◌<◌, ◌^◌, true, Some, length, take, drop, refl, sym, ap, subst, arith, rules}
 use Rattle.pool_outer.specs.Files.{bytes_in}
-use Rattle.queue_record.specs.Reading.{fed, start}
 use Rattle.solid_file.proofs.Moments.{keeps_both, keeps_none}
 use Rattle.queue_log.specs.Files.{IsSound, MeetsBadLine}
 use Rattle.queue_log.specs.Stands.{bad_line}

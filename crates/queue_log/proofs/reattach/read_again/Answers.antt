@@ -1,4 +1,4 @@
-use Rattle.std.proofs.Common.{◌≡◌, ◌∙◌, ◌<◌, ◌^◌, ℕ, List, true, length, subst}
+use Rattle.std.proofs.Common.{◌∙◌, ◌<◌, ◌^◌, length, subst}
 use Rattle.pool_outer.specs.Files.{bytes_in}
 use Rattle.queue_log.proofs.reattach.read_again.Goals as goal
 

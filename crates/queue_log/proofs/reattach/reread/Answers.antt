@@ -1,4 +1,4 @@
-use Rattle.std.proofs.Common.{◌≡◌, ◌∙◌, ◌≤◌, ℕ, List, true, length, take, ap, sym, arith}
+use Rattle.std.proofs.Common.{◌≡◌, ◌∙◌, true, length, take, ap, sym, arith}
 use Rattle.pool_outer.specs.Files.{bytes_in}
 use Rattle.queue_log.proofs.Opened.{whole_within}
 use Rattle.queue_log.proofs.Pieces.{cut_bytes, size_of}

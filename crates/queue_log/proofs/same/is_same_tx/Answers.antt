@@ -1,5 +1,5 @@
 -- Two transactions are the same where their operations are.
-use Rattle.std.proofs.Common.{◌≡◌, arith, sym, ap, ◌∙◌, refl, map, true≢false}
+use Rattle.std.proofs.Common.{◌≡◌, arith, sym, ◌∙◌, refl, map, true≢false}
 use Rattle.queue_tx.specs.Operations.{operation}
 use Rattle.ad_tree.proofs.TreeLemmas.{same_at, more_same, all_same}
 use Rattle.queue_log.proofs.same.is_same_tx.Goals as goal

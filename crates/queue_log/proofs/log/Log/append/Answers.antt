@@ -1,10 +1,9 @@
-use Rattle.std.proofs.Common.{◌≡◌, ◌∙◌, ◌++◌, ◌∷◌, [], List, ℕ, Option, Some, None, Ok, OnOk, true, ap, sym, subst}
+use Rattle.std.proofs.Common.{◌≡◌, ◌∙◌, ◌++◌, ◌∷◌, [], List, ℕ, Option, Some, None, Ok, true, ap, sym, subst}
 use Rattle.pool_outer.specs.Files.{bytes_in, Leaves}
 use Rattle.queue_tx.specs.Operations.{Operation}
 use Rattle.queue_tx.specs.Queues.{KeyedAds, queue_after, with_changes}
 use Rattle.queue_log.specs.declared.log.Halt.{Halt}
-use Rattle.queue_log.specs.Logs.{IsWhole, KeepsLog, StandsForLog}
-use Rattle.queue_log.specs.Stands.{Stands}
+use Rattle.queue_log.specs.Logs.{IsWhole, KeepsLog}
 use Rattle.queue_log.proofs.Settled.{log_image}
 use Rattle.queue_log.proofs.log.Log.append.Goals as goal
 

@@ -1,4 +1,4 @@
-use Rattle.std.proofs.Common.{◌≡◌, ◌∙◌, ◌⊎◌, ℕ, List, Option, Some, None, true, ap, sym, subst}
+use Rattle.std.proofs.Common.{◌≡◌, ◌∙◌, ◌⊎◌, true, ap, sym, subst}
 use Rattle.pool_outer.specs.Files.{bytes_in, Leaves}
 use Rattle.solid_file.proofs.Moments.{weaker}
 use Rattle.queue_log.specs.Logs.{IsWhole, KeepsLog, StandsForLog}

@@ -1,5 +1,4 @@
-use Rattle.std.proofs.Common.{◌≡◌, ◌∙◌, ◌++◌, ◌∷◌, [], List, Some, None, ap, sym}
-use Rattle.queue_tx.specs.Operations.{Operation}
+use Rattle.std.proofs.Common.{◌≡◌, ◌∙◌, ◌++◌, ◌∷◌, [], ap, sym}
 use Rattle.queue_log.proofs.Beyond.{more_beyond, none_beyond, one_beyond}
 use Rattle.queue_log.proofs.logged.Logged.beyond.Goals as goal
 

@@ -1,4 +1,4 @@
-use Rattle.std.proofs.Common.{◌≡◌, ◌++◌, ◌∷◌, [], List, Ok, OnOk, ap, sym, subst}
+use Rattle.std.proofs.Common.{◌≡◌, ◌++◌, ◌∷◌, [], Ok, OnOk, sym, subst}
 use Rattle.queue_tx.specs.Queues.{queue_after, with_changes}
 use Rattle.queue_record.proofs.LogLemmas.{applies_push}
 use Rattle.queue_log.specs.Logged.{IsLogged}

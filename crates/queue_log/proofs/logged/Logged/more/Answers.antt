@@ -1,6 +1,6 @@
-use Rattle.std.proofs.Common.{◌≡◌, ◌≤◌, ◌+◌, ◌<◌, length, Err, refl, ap, sym, subst, arith, rules}
+use Rattle.std.proofs.Common.{◌≡◌, ◌≤◌, length, Err, refl, ap, sym, subst, arith, rules}
 use Rattle.pool_outer.specs.declared.limit.Which.TheVariants as which
-use Rattle.queue_tx.specs.Queues.{QueueOf, queue_after}
+use Rattle.queue_tx.specs.Queues.{QueueOf}
 use Rattle.queue_log.specs.declared.error.LogError.TheVariants.{Limit, Memory}
 use Rattle.receipt_roll.specs.declared.roll.TheConstants.{MAX_ITEMS}
 use Rattle.queue_log.proofs.Beyond.{last_applies}

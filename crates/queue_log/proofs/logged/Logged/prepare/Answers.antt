@@ -1,4 +1,4 @@
-use Rattle.std.proofs.Common.{◌≡◌, ◌≤◌, ◌+◌, ◌<◌, length, Err, ap, sym, subst, arith}
+use Rattle.std.proofs.Common.{length, Err, ap, sym, subst, arith}
 use Rattle.queue_log.specs.Logged.{IsOverLimit}
 use Rattle.queue_log.proofs.Refusals.{by_roll}
 use Rattle.queue_log.proofs.logged.Logged.prepare.Goals as goal
