@@ -18,3 +18,4 @@ pub mod Viewing
 pub mod Wanting
 pub mod Launching
 pub mod Reviewing
+pub mod Bringing

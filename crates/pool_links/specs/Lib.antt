@@ -6,3 +6,4 @@ pub mod Openings
 pub mod Wanted
 pub mod Shown
 pub mod Launched
+pub mod Bringing

@@ -1,6 +1,6 @@
 //! What the events of the schedd do to the parts of a pool.
 
-ghost use Rattle.std.specs.Prelude.{◌≡◌, ℕ, ◌≤◌, List, [], ◌∷◌, map, Option, None, Some, Ok, if◌then◌else◌};
+ghost use Rattle.std.specs.Prelude.{◌≡◌, ℕ, ◌≤◌, List, [], ◌∷◌, ◌++◌, map, Option, None, Some, Ok, if◌then◌else◌};
 ghost use Rattle.claim_id.specs.declared.numbers.ClaimId.{ClaimId};
 ghost use Rattle.claim_id.specs.declared.numbers.JobId.{JobId};
 ghost use Rattle.pool_mail.specs.declared.mail.Mail.{Mail};
@@ -19,8 +19,10 @@ ghost use Rattle.schedd_core.specs.Logging.{IsReopened};
 ghost use Rattle.schedd_core.specs.PlanChanges.{moves_of_logged, moves_of_order, pends};
 ghost use Rattle.schedd_core.specs.Reopening.{IsReader};
 ghost use Rattle.schedd_core.specs.Rows.{after_mail};
+ghost use Rattle.schedd_core.specs.ScheddParts.{IsOrdered};
 ghost use Rattle.schedd_core.specs.Schedds.{ScheddValue};
 ghost use Rattle.schedd_core.specs.Ticks.{IsTicked};
+ghost use Rattle.pool_links.specs.Bringing.{AreIdleJobs, AreOfHeader, JobAd, all_bringing_ops, new_job_of};
 ghost use Rattle.pool_links.specs.Linked.{BringsJobs, IsLinked, StayLinked, new_job_id};
 ghost use Rattle.pool_links.specs.PoolParts.{NewJobs, Planned, PoolParts};
 ghost use Rattle.pool_links.specs.ScheddEvents.{AreNewJobs, Finishes, is_known, job_removed, moves_of_schedd_mail, orders_of_mail, parts_with_return, parts_with_jobs, parts_with_plan, parts_with_schedd, parts_with_submission};
@@ -56,6 +58,15 @@ pub fn submissions_keep_links()
         → ((new : KeyedAds) → queue_after a.queue tx ≡ Ok new → BringsJobs a.queue jobs new)
         → StayLinked p (Pend (Submission jobs) ∷ [])
         (parts_with_submission (map new_job_id jobs) tx a) }
+{}
+
+/// A transaction that makes the ads of new jobs name by name, behind what it does to the header,
+/// brings those jobs into the queue.
+pub fn jobs_are_brought()
+    ensures { (q new : KeyedAds) (before : List Operation) (kind other : List ℕ)
+        (jobs : List JobAd) → IsOrdered q → AreOfHeader before → AreIdleJobs jobs
+        → queue_after q (before ++ all_bringing_ops kind other jobs) ≡ Ok new
+        → BringsJobs q (map new_job_of jobs) new }
 {}
 
 /// What was unfinished keeps the links once it is logged: a plan, which is committed and whose
