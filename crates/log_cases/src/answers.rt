@@ -1,4 +1,5 @@
 use crate::asking::answer_asking;
+use crate::beside::answer_beside;
 use crate::boots::{answer_boot_line, answer_boots};
 use crate::fails::answer_fails;
 use crate::lines::answer_line;
@@ -7,6 +8,7 @@ use crate::queues::{answer_apply, answer_kind};
 use crate::reading::{answer_cuts, answer_read};
 use crate::stops::answer_stops;
 use crate::tails::answer_tails;
+use crate::torn::answer_torn;
 use cases::{Case, CaseError, read_cases};
 use std::alloc::Global;
 
@@ -31,6 +33,8 @@ fn answer(alloc: Global, case: Case<'_>, out: &mut String) -> Result<(), CaseErr
         "tails" => answer_tails(alloc, case, out),
         "stops" => answer_stops(alloc, case, out),
         "fails" => answer_fails(alloc, case, out),
+        "beside" => answer_beside(alloc, case, out),
+        "torn" => answer_torn(alloc, case, out),
         "boots" => answer_boots(alloc, case, out),
         "boot-line" => answer_boot_line(alloc, case, out),
         _ => Err(CaseError::Kind { line: case.line }),

@@ -1,18 +1,24 @@
 // Logs in a store in memory.
 
+ghost use Rattle.std.specs.Prelude.{◌≡◌};
+
 use crate::printable::is_printable;
 use crate::queues::write_queue;
 use ad_value::{Copied, Text};
 use cases::{Case, CaseError};
 use pool_store::{MemFile, MemStore};
 use queue_log::{Log, LogError};
-use queue_record::{Reader, RecordError};
+use queue_record::{Reader, RecordError, print_tx};
 use queue_tx::{Queue, Tx, TxList};
+use receipt_roll::Receipt;
 use std::alloc::{AllocError, Global};
 use std::fmt::Write;
 
 /// The file of a log.
 pub(crate) const NAME: &str = "job_queue.log";
+
+/// The number of a transaction that isn't where it was acknowledged.
+pub(crate) const NOWHERE: u64 = u64::MAX;
 
 /// When new logs are begun.
 pub(crate) const READING: u64 = 5;
@@ -53,6 +59,17 @@ pub(crate) fn bytes_of(store: &MemStore) -> &[u8] {
     store.files().bytes(NAME).unwrap_or(&[])
 }
 
+/// The least that a stop may leave of a file.
+pub(crate) fn least_image<'a>(store: &'a MemStore, name: &str) -> &'a [u8] {
+    let bytes = store.files().bytes(name).unwrap_or(&[]);
+    for length in 0..bytes.len() {
+        if store.files().is_image(name, &bytes[..length]) {
+            return &bytes[..length];
+        }
+    }
+    bytes
+}
+
 /// The transaction of a new log, and those of a text behind it.
 pub(crate) fn transactions_of(
     alloc: Global,
@@ -79,8 +96,8 @@ pub(crate) fn appended(txs: &[Tx]) -> &[Tx] {
     }
 }
 
-/// Appends an equal transaction to a log, and gives its number. It has to be one that the log can
-/// take.
+/// Appends an equal transaction to a log, and gives its number; `NOWHERE` where the roll hasn't the
+/// transaction at its receipt's number. It has to be one that the log can take.
 pub(crate) fn append(
     alloc: Global,
     case: Case<'_>,
@@ -94,8 +111,31 @@ pub(crate) fn append(
         return Err(CaseError::Memory);
     };
     match log.append(alloc, copy) {
-        Ok(receipt) => Ok(Ok(receipt.number())),
+        Ok(receipt) => Ok(Ok(confirmed_number(alloc, log, &receipt, tx))),
         Err(error) => Ok(Err(error)),
+    }
+}
+
+/// The number of a receipt, once it is confirmed, where the roll has an equal transaction there.
+pub(crate) fn confirmed_number(
+    alloc: Global,
+    log: &mut Log<MemStore>,
+    receipt: &Receipt<Tx>,
+    tx: &Tx,
+) -> u64
+    requires { receipt.now.mark ≡ log.old.mark }
+{
+    log.confirm(receipt);
+    match log.roll().get(receipt.number()) {
+        Some(item) if is_same(alloc, item, tx) => receipt.number(),
+        _ => NOWHERE,
+    }
+}
+
+fn is_same(alloc: Global, a: &Tx, b: &Tx) -> bool {
+    match (print_tx(alloc, a), print_tx(alloc, b)) {
+        (Ok(a), Ok(b)) => a.as_str() == b.as_str(),
+        _ => false,
     }
 }
 
@@ -139,7 +179,8 @@ pub(crate) fn found_in(
     }
 }
 
-fn found_as(
+/// The same of a log.
+pub(crate) fn found_as(
     alloc: Global,
     log: &Log<MemStore>,
     queues: &[String],

@@ -2,16 +2,19 @@
 //! output.
 //!
 //! `read BYTES`, `line BYTES NUMBER`, `print OP ..`, `apply COUNT KEYAD .. OP ..`,
-//! `asking AD COUNT KEYAD .. OP ..`, `cuts BYTES`, `tails BYTES`, `stops BYTES`, `fails GAP BYTES`,
-//! `kind AD`, `boots BYTES`, `boot-line NUMBER`: README.md says what each answers.
+//! `asking AD COUNT KEYAD .. OP ..`, `cuts BYTES`, `tails BYTES`, `torn GAP BYTES`, `stops BYTES`,
+//! `fails GAP BYTES`, `beside GAP BYTES`, `kind AD`, `boots BYTES`, `boot-line NUMBER`: README.md
+//! says what each answers.
 #![tactic(auto)]
 
 mod answers;
 mod asking;
+mod beside;
 mod boots;
 mod fails;
 mod lines;
 mod logs;
+mod mending;
 mod operations;
 mod printable;
 mod queues;
@@ -19,6 +22,7 @@ mod reading;
 mod recovery;
 mod stops;
 mod tails;
+mod torn;
 
 use crate::answers::answer_all;
 use anyhow::Result;

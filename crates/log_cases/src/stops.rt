@@ -1,5 +1,6 @@
 use crate::logs::{
-    NAME, READING, append, appended, bytes_of, found_in, queues_of, store_of, transactions_of,
+    NAME, READING, append, appended, bytes_of, found_in, least_image, queues_of, store_of,
+    transactions_of,
 };
 use cases::{Case, CaseError};
 use pool_store::MemStore;
@@ -128,7 +129,7 @@ fn stopped_with(
     acknowledged: u64,
     queues: &[String],
 ) -> Result<Stopped, CaseError> {
-    let least = found_in(alloc, least_image(store), queues)?;
+    let least = found_in(alloc, least_image(store, NAME), queues)?;
     let most = found_in(alloc, bytes_of(store), queues)?;
     let found = if is_kept(acknowledged, least) && is_kept(acknowledged, most) {
         most
@@ -139,16 +140,6 @@ fn stopped_with(
         acknowledged,
         found,
     })
-}
-
-fn least_image(store: &MemStore) -> &[u8] {
-    let bytes = bytes_of(store);
-    for length in 0..bytes.len() {
-        if store.files().is_image(NAME, &bytes[..length]) {
-            return &bytes[..length];
-        }
-    }
-    bytes
 }
 
 // Whether all that were acknowledged are found, and at most one more.
