@@ -16,7 +16,7 @@ use Rattle.queue_tx.proofs.Queues.{exact_keys}
 use Rattle.schedd_table.specs.declared.claims.KeptClaim.{KeptClaim}
 use Rattle.schedd_core.specs.Searches.{is_engaged_key, IsFree}
 
-after_or_equal : (r : Ordering) → is_gt r ≡ false → (r ≡ Less) ⊎ (r ≡ Equal)
+pub after_or_equal : (r : Ordering) → is_gt r ≡ false → (r ≡ Less) ⊎ (r ≡ Equal)
 after_or_equal Less h = inl refl
 after_or_equal Equal h = inr refl
 after_or_equal Greater h = cc

@@ -102,6 +102,7 @@ module _ (q new : KeyedAds) (v : ScheddValue) (pl : JobPlan) (o : IsOrdered q) (
         claims = found_claims new (found_runs read new (left i) reading jobs);
         runs = found_runs read new (left i) reading jobs;
         checked = [];
+        passed = None;
         waiting = None;
       }
 

@@ -21,3 +21,8 @@ pub mod BackFits
 pub mod KeptPlans
 pub mod LeftJobs
 pub mod LooksKept
+pub mod Fresh
+pub mod Passing
+pub mod Oldest
+pub mod DueFirst
+pub mod Marks

@@ -3,7 +3,9 @@ use Rattle.std.proofs.Common.{◌≡◌, ◌⊎◌, inl, inr, ◌<◌, ◌≤◌
 use Rattle.std.specs.Prelude.{find}
 use Rattle.std.specs.declared.cmp.Ordering.{Ordering}
 use Rattle.std.specs.declared.cmp.Ordering.TheVariants.{Less, Equal, Greater}
+use Rattle.std.specs.declared.ops.Bound.{Bound}
 use Rattle.std.specs.declared.ops.Bound.TheVariants.{Unbounded}
+use denote.Ref.{Bor}
 use Rattle.std.specs.Ordering.{is_eq, is_gt, nat_cmp, ordering_then}
 use Rattle.std.specs.Cmp.{tied_itself, nat_cmp_is}
 use Rattle.std.proofs.lemmas.Bool.{cases_lt}
@@ -20,9 +22,9 @@ use Rattle.queue_tx.proofs.Queues.{exact_keys, then_equal}
 use Rattle.queue_tx.proofs.Transactions.{same_keys}
 use Rattle.schedd_core.specs.declared.looks.Look.{Look}
 use Rattle.schedd_core.specs.declared.looks.Noted.{Noted}
-use Rattle.schedd_core.specs.Looks.{look_cmp, look_cmp_total, same_look, look_of, is_look, has_look, SetsTimes, AreTimes, IsOldest}
+use Rattle.schedd_core.specs.Looks.{look_cmp, look_cmp_total, same_look, look_of, is_look, has_look, SetsTimes, AreTimes, IsOldest, IsLookOf, IsFirstLook}
 
-exact_looks : CmpEqualImpliesEq look_cmp
+pub exact_looks : CmpEqualImpliesEq look_cmp
 exact_looks a b h =
     let parts = then_equal (nat_cmp a.at b.at) (key_cmp a.key b.key) h in
     let times = exact_unsigned a.at b.at parts.0 in
@@ -116,7 +118,7 @@ look_at key (Some at) l h =
     let same : record { at = at; key = key } ≡ l = exact_looks (record { at = at; key = key }) l (equal_from (look_cmp (record { at = at; key = key }) l) h) in
     (ap (λ m. m.key) same, ap (λ m. Some m.at) same)
 
-at_most : (a b : ℕ) (r : Ordering) → is_gt (ordering_then (nat_cmp a b) r) ≡ false → a ≤ b
+pub at_most : (a b : ℕ) (r : Ordering) → is_gt (ordering_then (nat_cmp a b) r) ≡ false → a ≤ b
 at_most a b r h = by (cases_lt b a)
   where
     by : (b < a) ⊎ (a ≤ b) → a ≤ b
@@ -139,3 +141,13 @@ module _ (jobs : List (Key × ℕ)) (es : List (Look × Noted)) (are : AreTimes 
       let r = found_is_first look_cmp_total Unbounded es f s (sym h) in
       let at = look_at f.0.key (lookup (same_key f.0.key) jobs) f.0 (sym (are f.0) ∙ ap is_some r.there) in
       (at.1, λ key time is. at_most f.0.at time (key_cmp f.0.key key) (r.first (record { at = time; key = key }) (listed key time is) refl))
+
+  -- ---- the first past a bound
+  pub none_past : (start : Bound (Bor Look)) → None ≡ find (λ (e : Look × Noted). is_past look_cmp start e.0) es → (look : Look) → IsLookOf jobs look → is_past look_cmp start look ≡ false
+  none_past start h look is = none_found_past look_cmp_total start es look (sym h) (listed look.key look.at is)
+
+  pub first_past : (start : Bound (Bor Look)) (f : Look × Noted) → IsStrictlySortedBy look_cmp (keys_of es) → Some f ≡ find (λ (e : Look × Noted). is_past look_cmp start e.0) es → IsFirstLook jobs start f.0
+  first_past start f s h =
+      let r = found_is_first look_cmp_total start es f s (sym h) in
+      let at = look_at f.0.key (lookup (same_key f.0.key) jobs) f.0 (sym (are f.0) ∙ ap is_some r.there) in
+      record { is = at.1; past = r.past; first = λ other is past. r.first other (listed other.key other.at is) past }

@@ -1,5 +1,7 @@
 -- A schedd that comes back is as if the event whose plan was lost had not been.
 use Rattle.std.proofs.Common.{◌≡◌, ℕ, ◌+◌, Bool, true, false, cond, not, ◌&&◌, List, [], slice_get, Option, Some, None, is_some, is_none, refl, ap, sym, ◌∙◌, subst}
+use Rattle.std.specs.BTreeMap.{insert_entry}
+use Rattle.std.specs.Map.{lookup}
 use Rattle.ad_names.specs.declared.job.TheConstants.{PERIODIC_HOLD, PERIODIC_REMOVE, PERIODIC_RELEASE}
 use Rattle.ad_tree.specs.Ad.{Attributes}
 use Rattle.claim_id.specs.declared.numbers.ClaimId.{ClaimId}
@@ -7,8 +9,10 @@ use Rattle.claim_id.specs.declared.numbers.JobId.{JobId}
 use Rattle.pool_mail.specs.declared.mail.Mail.{Mail}
 use Rattle.pool_mail.specs.declared.mail.Mail.TheVariants as mail
 use Rattle.pool_mail.specs.declared.why.Why.{Why}
+use Rattle.ordered_map.proofs.Maps.{lookup-insert_entry}
 use Rattle.queue_tx.specs.declared.key.Key.{Key}
 use Rattle.queue_tx.specs.declared.key.Key.TheVariants.{Header, Proc}
+use Rattle.queue_tx.specs.Keys.{key_cmp, key_cmp_total, same_key}
 use Rattle.queue_tx.specs.Queues.{KeyedAds, ad_at}
 use Rattle.schedd_plan.specs.declared.plan.JobPlan.{JobPlan}
 use Rattle.schedd_plan.specs.declared.plan.JobPlan.TheVariants as plan
@@ -33,6 +37,7 @@ use Rattle.schedd_table.specs.MailTable.{is_idle_place, granted_at, granted_row,
 use Rattle.schedd_table.specs.OrderTable.{remove_plan, hold_plan, resume_plan, resume_marked, can_be_held, is_waiting}
 use Rattle.schedd_core.specs.declared.answer.ScheddStep.{ScheddStep}
 use Rattle.schedd_core.specs.Checks.{policy_plan, after_check_by, after_check, with_look}
+use Rattle.schedd_core.specs.DueChecks.{was_checked}
 use Rattle.schedd_core.specs.Logging.{reopened, IsReopened}
 use Rattle.schedd_core.specs.Reopening.{next_after, is_under_at, under_by, is_under_kind, still_left, found_runs, found_claims}
 use Rattle.schedd_core.specs.Rows.{stage_known, run_at, known_job, seen_at, gone_at, ended_at, ended_with, mail_row, noted_in, asked_in, after_row, after_mail}
@@ -42,10 +47,25 @@ use Rattle.schedd_core.proofs.FitsAfter.{Frees}
 use Rattle.schedd_core.proofs.Freed.{let_go_frees, end_frees}
 use Rattle.schedd_core.proofs.Lines.{LineTold, line_told, IdleAd, idle_at, sought_idle}
 
+-- no job that was looked at is forgotten, and the mark stays
+abbrev pub GoesOn : ScheddValue → ScheddValue → Type 0
+GoesOn v w = (w.passed ≡ v.passed) × ((key : Key) → was_checked v.checked key ≡ true → was_checked w.checked key ≡ true)
+
+going_on : (v : ScheddValue) → GoesOn v v
+going_on v = (refl, λ key h. h)
+
+checked_more : (looks : List (Key × ℕ)) (k : Key) (at : ℕ) (key : Key) → was_checked looks key ≡ true → was_checked (insert_entry key_cmp looks k at) key ≡ true
+checked_more looks k at key h = ap is_some (lookup-insert_entry key_cmp_total key k at looks) ∙ by (same_key k key)
+  where
+    by : (b : Bool) → is_some (cond b (Some at) (lookup (same_key key) looks)) ≡ true
+    by true = refl
+    by false = h
+
 -- what a crash leaves of a schedd that is like another, where nothing was logged
 pub record LeavesAs (q : KeyedAds) (v w : ScheddValue) : Type 0 where
   pub settings : w.settings ≡ v.settings
   pub left : w.left ≡ v.left
+  pub looks : GoesOn v w
   pub next : next_after q w.waiting w.next_run ≡ v.next_run
 
 pub same_reopened : (read : List ℕ → Option ClaimId) (jobs : List JobId) (q : KeyedAds) (reading : ℕ) (v w : ScheddValue) → v.waiting ≡ None → LeavesAs q v w → reopened read jobs q reading w ≡ reopened read jobs q reading v
@@ -59,6 +79,7 @@ same_reopened read jobs q reading v w none like =
       claims = found_claims q (found_runs read q (still_left q (like.left i)) reading jobs);
       runs = found_runs read q (still_left q (like.left i)) reading jobs;
       checked = [];
+      passed = None;
       waiting = None;
     }
 
@@ -125,12 +146,12 @@ module _ (q : KeyedAds) (v : ScheddValue) (idle : v.waiting ≡ None) where
 
   -- what waits is nothing, or a plan that uses up no number
   nothing_waits : LeavesAs q v v
-  nothing_waits = record { settings = refl; left = refl; next = itself v.next_run }
+  nothing_waits = record { settings = refl; left = refl; looks = going_on v; next = itself v.next_run }
 
   order_as : (o : Option JobPlan) (reading : ℕ) → UsesNone q o → LeavesAs q v (after_row v q (order_row o) reading).schedd
   unfolding after_row
   order_as None reading uses = nothing_waits
-  order_as (Some p) reading uses = record { settings = refl; left = refl; next = uses v.next_run }
+  order_as (Some p) reading uses = record { settings = refl; left = refl; looks = going_on v; next = uses v.next_run }
 
   gone_as : (o : Option ℕ) (run : Rattle.claim_id.specs.declared.numbers.RunNo.RunNo) (kept : Bool) (reading : ℕ) → LeavesAs q v (after_row v q (gone_at (run_at v.runs o) q run kept) reading).schedd
   unfolding after_row
@@ -139,7 +160,7 @@ module _ (q : KeyedAds) (v : ScheddValue) (idle : v.waiting ≡ None) where
     where
       by : (o : Option KeptRun) → LeavesAs q v (after_row v q (gone_at (known_job i o) q run kept) reading).schedd
       by None = nothing_waits
-      by (Some r) = record { settings = refl; left = refl; next = freed_uses q r.job (let_go q r.job) (let_go_frees q r.job) v.next_run }
+      by (Some r) = record { settings = refl; left = refl; looks = going_on v; next = freed_uses q r.job (let_go q r.job) (let_go_frees q r.job) v.next_run }
 
   ended_as : (o : Option ℕ) (run : Rattle.claim_id.specs.declared.numbers.RunNo.RunNo) (h : Rattle.pool_mail.specs.declared.end.How.How) (reading : ℕ) → LeavesAs q v (after_row v q (ended_at (run_at v.runs o) q run h reading) reading).schedd
   unfolding after_row
@@ -148,7 +169,7 @@ module _ (q : KeyedAds) (v : ScheddValue) (idle : v.waiting ≡ None) where
     where
       with_ad : (r : KeptRun) (o : Option Attributes) → LeavesAs q v (after_row v q (ended_with o (i, r.job) run h reading) reading).schedd
       with_ad r None = nothing_waits
-      with_ad r (Some ad) = record { settings = refl; left = refl; next = freed_uses q r.job (ended_ad_plan r.job ad h reading) (end_frees r.job ad h reading) v.next_run }
+      with_ad r (Some ad) = record { settings = refl; left = refl; looks = going_on v; next = freed_uses q r.job (ended_ad_plan r.job ad h reading) (end_frees r.job ad h reading) v.next_run }
 
       by : (o : Option KeptRun) → LeavesAs q v (after_row v q (ended_at (known_job i o) q run h reading) reading).schedd
       by None = nothing_waits
@@ -156,7 +177,7 @@ module _ (q : KeyedAds) (v : ScheddValue) (idle : v.waiting ≡ None) where
 
   -- of claims alone
   claims_as : (claims : List KeptClaim) → LeavesAs q v (record v { claims = claims })
-  claims_as claims = record { settings = refl; left = refl; next = itself v.next_run }
+  claims_as claims = record { settings = refl; left = refl; looks = going_on v; next = itself v.next_run }
 
   asked_as : (b : Bool) (found : Rattle.pool_mail.specs.declared.matching.Match.Match) (reading : ℕ) → LeavesAs q v (after_row v q (cond b (row.Ask found.claim found.job found.by_priority) row.Nothing) reading).schedd
   unfolding after_row
@@ -165,7 +186,7 @@ module _ (q : KeyedAds) (v : ScheddValue) (idle : v.waiting ≡ None) where
     where
       by : (o : Option Attributes) → LeavesAs q v (asked_in o v found.claim found.job found.by_priority reading).schedd
       by None = nothing_waits
-      by (Some ad) = record { settings = refl; left = refl; next = itself v.next_run }
+      by (Some ad) = record { settings = refl; left = refl; looks = going_on v; next = itself v.next_run }
 
   granted_as : (o : Option (ℕ × Stage)) (claim : Rattle.claim_id.specs.declared.numbers.ClaimNo.ClaimNo) (reading : ℕ) → LeavesAs q v (after_row v q (granted_row o claim) reading).schedd
   unfolding after_row
@@ -173,7 +194,7 @@ module _ (q : KeyedAds) (v : ScheddValue) (idle : v.waiting ≡ None) where
   granted_as (Some known) claim reading = by known.1
     where
       by : (s : Stage) → LeavesAs q v (after_row v q (granted_at known.0 s) reading).schedd
-      by (stage.Asked at) = record { settings = refl; left = refl; next = itself v.next_run }
+      by (stage.Asked at) = record { settings = refl; left = refl; looks = going_on v; next = itself v.next_run }
       by stage.Ready = nothing_waits
       by stage.Leaving = nothing_waits
 
@@ -184,11 +205,11 @@ module _ (q : KeyedAds) (v : ScheddValue) (idle : v.waiting ≡ None) where
     where
       by : (b : Bool) → LeavesAs q v (after_row v q (cond b row.Nothing (row.Leave known.0)) reading).schedd
       by true = nothing_waits
-      by false = record { settings = refl; left = refl; next = itself v.next_run }
+      by false = record { settings = refl; left = refl; looks = going_on v; next = itself v.next_run }
   denied_as (Some known) false w reading = by known.1
     where
       by : (s : Stage) → LeavesAs q v (after_row v q (denied_claim known.0 s) reading).schedd
-      by (stage.Asked at) = record { settings = refl; left = refl; next = itself v.next_run }
+      by (stage.Asked at) = record { settings = refl; left = refl; looks = going_on v; next = itself v.next_run }
       by stage.Ready = nothing_waits
       by stage.Leaving = nothing_waits
 
@@ -199,7 +220,7 @@ module _ (q : KeyedAds) (v : ScheddValue) (idle : v.waiting ≡ None) where
     where
       by : (o : Option KeptRun) → LeavesAs q v (noted_in o i reading v)
       by None = nothing_waits
-      by (Some r) = record { settings = refl; left = refl; next = itself v.next_run }
+      by (Some r) = record { settings = refl; left = refl; looks = going_on v; next = itself v.next_run }
 
   pub mail_as : (m : Mail) (reading : ℕ) → LeavesAs q v (after_mail v q m reading).schedd
   unfolding after_row mail_row
@@ -222,7 +243,7 @@ module _ (q : KeyedAds) (v : ScheddValue) (idle : v.waiting ≡ None) where
   -- ---- ticks
   past_as : (i : ℕ) (o : Option KeptRun) → LeavesAs q v (after_past v q i o).schedd
   past_as i None = nothing_waits
-  past_as i (Some r) = record { settings = refl; left = refl; next = freed_uses q r.job (let_go q r.job) (let_go_frees q r.job) v.next_run }
+  past_as i (Some r) = record { settings = refl; left = refl; looks = going_on v; next = freed_uses q r.job (let_go q r.job) (let_go_frees q r.job) v.next_run }
 
   lengthen_as : (i reading : ℕ) (o : Option KeptRun) → LeavesAs q v (after_lengthen v q i o reading).schedd
   lengthen_as i reading None = nothing_waits
@@ -230,7 +251,7 @@ module _ (q : KeyedAds) (v : ScheddValue) (idle : v.waiting ≡ None) where
     where
       by : (o : Option Attributes) → LeavesAs q v (lengthened_by o v i r reading).schedd
       by None = nothing_waits
-      by (Some ad) = record { settings = refl; left = refl; next = refl }
+      by (Some ad) = record { settings = refl; left = refl; looks = going_on v; next = refl }
 
   -- a job that is idle in the queue was not granted there
   grant_as : (i reading : ℕ) (job : JobId) (o : Option KeptClaim) → IdleAd q job → LeavesAs q v (after_grant v q i o job reading).schedd
@@ -242,16 +263,16 @@ module _ (q : KeyedAds) (v : ScheddValue) (idle : v.waiting ≡ None) where
 
       by : (o : Option Attributes) → LeavesAs q v (granted_by o v (is_some (ad_at Header q)) i c job reading).schedd
       by None = nothing_waits
-      by (Some ad) = record { settings = refl; left = refl; next = ap (λ b. cond b (v.next_run + 1) v.next_run) free }
+      by (Some ad) = record { settings = refl; left = refl; looks = going_on v; next = ap (λ b. cond b (v.next_run + 1) v.next_run) free }
 
   give_up_as : (i : ℕ) (o : Option KeptClaim) → LeavesAs q v (after_give_up v i o).schedd
   give_up_as i None = nothing_waits
-  give_up_as i (Some c) = record { settings = refl; left = refl; next = itself v.next_run }
+  give_up_as i (Some c) = record { settings = refl; left = refl; looks = going_on v; next = itself v.next_run }
 
   line_as : (l : TickLine) (found : Option Key) (reading : ℕ) → LineTold v q reading l → IsSought v q l found → LeavesAs q v (after_line v q l found reading).schedd
   unfolding after_line
   line_as line.Nothing found reading told sought = nothing_waits
-  line_as (line.Left job) found reading told sought = record { settings = refl; left = refl; next = freed_uses q job (let_go q job) (let_go_frees q job) v.next_run }
+  line_as (line.Left job) found reading told sought = record { settings = refl; left = refl; looks = going_on v; next = freed_uses q job (let_go q job) (let_go_frees q job) v.next_run }
   line_as (line.Past i) found reading told sought = past_as i (slice_get v.runs i)
   line_as (line.Lengthen i) found reading told sought = lengthen_as i reading (slice_get v.runs i)
   line_as (line.Regrant i job) found reading told sought = grant_as i reading job (slice_get v.claims i) (idle_at q job told)
@@ -269,8 +290,8 @@ module _ (q : KeyedAds) (v : ScheddValue) (idle : v.waiting ≡ None) where
   check_as job reading = by (ad_at (Proc job) q)
     where
       waits_as : (o : Option JobPlan) → UsesNone q o → LeavesAs q v (waits_for o (with_look job reading v)).schedd
-      waits_as None uses = record { settings = refl; left = refl; next = itself v.next_run }
-      waits_as (Some p) uses = record { settings = refl; left = refl; next = uses v.next_run }
+      waits_as None uses = record { settings = refl; left = refl; looks = (refl, checked_more v.checked (Proc job) reading); next = itself v.next_run }
+      waits_as (Some p) uses = record { settings = refl; left = refl; looks = (refl, checked_more v.checked (Proc job) reading); next = uses v.next_run }
 
       chosen : (hold remove release : Bool) → UsesNone q (cond hold (hold_plan (job_place q v.left job) job ByPolicy) (cond remove (remove_plan (job_place q v.left job) job) (cond release (resume_plan (job_place q v.left job) job) None)))
       chosen true remove release = hold_uses q job ByPolicy (job_place q v.left job)

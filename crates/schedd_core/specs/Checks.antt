@@ -9,7 +9,7 @@ use Rattle.ad_tree.specs.Ad as ad
 use Rattle.claim_id.specs.declared.numbers.JobId.{JobId}
 use Rattle.queue_tx.specs.declared.key.Key.TheVariants.{Proc}
 use Rattle.queue_tx.specs.Keys.{key_cmp, same_key}
-use Rattle.queue_tx.specs.Kinds.{kind_of}
+use Rattle.queue_tx.specs.Periodic.{has_periodic}
 use Rattle.queue_tx.specs.Queues.{KeyedAds, ad_at}
 use Rattle.schedd_plan.specs.declared.plan.JobPlan.{JobPlan}
 use Rattle.schedd_plan.specs.declared.reason.Reason.TheVariants.{ByPolicy}
@@ -21,16 +21,6 @@ use Rattle.schedd_table.specs.TickTable.{is_after}
 use Rattle.schedd_core.specs.Schedds.{ScheddValue, After, becomes, waits_for}
 
 -- ---- when a look is due
-abbrev pub has_name : List ℕ → Attributes → Bool
-has_name name attributes = is_some (ad.lookup name attributes)
-
--- a job with a periodic expression
-abbrev pub has_periodic : Attributes → Bool
-has_periodic attributes = is_some (kind_of attributes)
-    && (has_name PERIODIC_HOLD.now attributes
-    || has_name PERIODIC_REMOVE.now attributes
-    || has_name PERIODIC_RELEASE.now attributes)
-
 abbrev pub is_unchecked_since : Option ℕ → ℕ → ℕ → Bool
 is_unchecked_since None seconds reading = true
 is_unchecked_since (Some last) seconds reading = is_after last seconds reading

@@ -9,3 +9,4 @@ pub mod JobStates
 pub mod PlanChanges
 pub mod ScheddParts
 pub mod Looks
+pub mod DueChecks

@@ -130,6 +130,7 @@ with_found read q reading left runs v = record v {
   claims = found_claims q runs;
   runs = runs;
   checked = [];
+  passed = None;
   waiting = None;
 }
 

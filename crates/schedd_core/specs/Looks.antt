@@ -2,8 +2,11 @@
 use Rattle.std.specs.Prelude.{◌≡◌, ◌≤◌, ℕ, Bool, true, false, List, Option, Some, None, is_some, MatchOption, if◌then◌else◌}
 use Rattle.std.specs.Cmp.{IsTotalOrder, then_total, on_total, nat_cmp_total, eq_by_cmp_equiv, partial_equiv_from_equiv, partial_order_from_total, IsEquivalence, IsPartialEquivalence, IsPartialOrder}
 use Rattle.std.specs.Map.{lookup}
-use Rattle.std.specs.Ordering.{nat_cmp, on, then_cmp, as_partial_cmp, eq_by_cmp}
+use Rattle.std.specs.Ordering.{nat_cmp, on, then_cmp, as_partial_cmp, eq_by_cmp, is_gt}
 use Rattle.std.specs.declared.cmp.Ordering.{Ordering}
+use Rattle.std.specs.declared.ops.Bound.{Bound}
+use denote.Ref.{Bor}
+use Rattle.ordered_map.specs.Trees.{is_past}
 use Rattle.queue_tx.specs.declared.key.Key.{Key}
 use Rattle.queue_tx.specs.Keys.{key_cmp, key_cmp_total, same_key}
 use Rattle.schedd_core.specs.declared.looks.Look.{Look}
@@ -64,3 +67,20 @@ IsOldest jobs found = MatchOption found
     ((key : Key) → lookup (same_key key) jobs ≡ None)
     (λ f. (lookup (same_key f.0) jobs ≡ Some f.1)
     × ((key : Key) (at : ℕ) → lookup (same_key key) jobs ≡ Some at → f.1 ≤ at))
+
+-- ---- one look after the other
+abbrev pub IsLookOf : List (Key × ℕ) → Look → Type 0
+IsLookOf jobs l = lookup (same_key l.key) jobs ≡ Some l.at
+
+-- the first look past a bound
+pub record IsFirstLook (jobs : List (Key × ℕ)) (start : Bound (Bor Look)) (look : Look)
+    : Type 0 where
+  pub is : IsLookOf jobs look
+  pub past : is_past look_cmp start look ≡ true
+  pub first : (other : Look) → IsLookOf jobs other → is_past look_cmp start other ≡ true
+      → is_gt (look_cmp look other) ≡ false
+
+abbrev pub FirstLook : List (Key × ℕ) → Bound (Bor Look) → Option Look → Type 0
+FirstLook jobs start found = MatchOption found
+    ((look : Look) → IsLookOf jobs look → is_past look_cmp start look ≡ false)
+    (λ look. IsFirstLook jobs start look)

@@ -20,6 +20,7 @@ pub record ScheddValue : Type 0 where
   pub claims : List KeptClaim  -- in the order in which they came
   pub runs : List KeptRun  -- the jobs under runs of this boot of the pool, in order of the jobs
   pub checked : List (Key × ℕ)  -- when the periodic expressions of a job were looked at last
+  pub passed : Option Key  -- each job with one up to this key was looked at
   pub waiting : Option JobPlan  -- what is to be logged
 
 -- the schedd of a pool that opens with a queue, of which these jobs are under a claim
@@ -31,6 +32,7 @@ opened left q set = record {
   claims = [];
   runs = [];
   checked = [];
+  passed = None;
   waiting = None;
 }
 

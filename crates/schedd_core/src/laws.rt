@@ -1,6 +1,7 @@
 //! What holds of every schedd over its queue.
 
-ghost use Rattle.std.specs.Prelude.{◌≡◌, ℕ, ◌≤◌, false, List, ◌∷◌, Option, Some, None, Ok, IfSome};
+ghost use Rattle.std.specs.Prelude.{◌≡◌, ℕ, ◌≤◌, true, false, List, ◌∷◌, Option, Some, None, Ok, IfSome};
+ghost use Rattle.std.specs.Ordering.{is_gt};
 ghost use Rattle.claim_id.specs.declared.numbers.ClaimId.{ClaimId};
 ghost use Rattle.claim_id.specs.declared.numbers.JobId.{JobId};
 ghost use Rattle.pool_mail.specs.declared.mail.Mail.{Mail};
@@ -9,7 +10,11 @@ ghost use Rattle.pool_protocol.specs.Facts.{Facts};
 ghost use Rattle.pool_protocol.specs.Protocol.{Protocol, change_steps, view_after_all};
 ghost use Rattle.pool_protocol.specs.ProtocolMove.{MayAll, protocol_after_all};
 ghost use Rattle.pool_view.specs.AbstractPool.{AbstractPool, IsIn};
+ghost use Rattle.queue_tx.specs.declared.key.Key.{Key};
+ghost use Rattle.queue_tx.specs.declared.key.Key.TheVariants.{Proc};
+ghost use Rattle.queue_tx.specs.Keys.{key_cmp};
 ghost use Rattle.queue_tx.specs.Operations.{Operation};
+ghost use Rattle.queue_tx.specs.Periodic.{IsPeriodic};
 ghost use Rattle.queue_tx.specs.Queues.{KeyedAds, QueueOf, queue_after};
 ghost use Rattle.schedd_plan.specs.declared.plan.JobPlan.{JobPlan};
 ghost use Rattle.schedd_plan.specs.Plans.{plan_ops};
@@ -17,6 +22,7 @@ ghost use Rattle.schedd_table.specs.declared.claims.KeptClaim.{KeptClaim};
 ghost use Rattle.schedd_table.specs.JobPlaces.{is_left};
 ghost use Rattle.schedd_core.specs.declared.answer.ScheddStep.{ScheddStep};
 ghost use Rattle.schedd_core.specs.Checks.{after_check};
+ghost use Rattle.schedd_core.specs.DueChecks.{IsPassed, Passes, with_new};
 ghost use Rattle.schedd_core.specs.JobStates.{ShowsJobs};
 ghost use Rattle.schedd_core.specs.Logging.{IsReopened, after_plan, mails_of_plan, run_of_job};
 ghost use Rattle.schedd_core.specs.PlanChanges.{change_of, moves_of_logged, moves_of_mail, moves_of_order, pends};
@@ -156,4 +162,35 @@ pub fn left_jobs_are_under_no_run()
         → (q : KeyedAds) (v back : ScheddValue) (reading : ℕ) (claim : KeptClaim) → Fits q v
         → IsReopened v q reading back → IsIn claim back.claims
         → is_left claim.job back.left ≡ false }
+{}
+
+/// All jobs with a periodic expression up to the mark of a schedd were looked at. So it is when the
+/// pool opens and when a schedd comes back; an event leaves it so, at once and where what was to be
+/// logged is; so does `Schedd::move_mark`; and so do jobs that come into the queue, once the schedd
+/// is told of one that none of them comes before (`Schedd::note_new`).
+pub fn the_mark_stands()
+    ensures openings { (q : KeyedAds) (settings : Settings) (v : ScheddValue)
+        → IsOpened q settings v → IsPassed q v }
+    ensures reopenings { (read : List ℕ → Option ClaimId) → IsReader read
+        → (q : KeyedAds) (v back : ScheddValue) (reading : ℕ) → IsReopened v q reading back
+        → IsPassed q back }
+
+    // events
+    ensures mails { (q : KeyedAds) (v : ScheddValue) (mail : Mail) (reading : ℕ)
+        → v.waiting ≡ None → IsPassed q v → IsPassed q (after_mail v q mail reading).schedd }
+    ensures ticks { (q : KeyedAds) (v new : ScheddValue) (step : ScheddStep) (reading : ℕ)
+        → v.waiting ≡ None → IsTicked v q reading new step → IsPassed q v → IsPassed q new }
+    ensures checks { (q : KeyedAds) (v : ScheddValue) (job : JobId) (reading : ℕ)
+        → v.waiting ≡ None → IsPassed q v → IsPassed q (after_check v q job reading).schedd }
+    ensures marks { (q : KeyedAds) (v : ScheddValue) (passed : Option Key)
+        → Passes q v.checked v.passed passed → IsPassed q v
+        → IsPassed q (record v { passed = passed }) }
+
+    // another queue
+    ensures logged { (q new : KeyedAds) (v : ScheddValue) (plan : JobPlan) → IsOrdered q
+        → IsFitting q v.left plan → queue_after q (plan_ops plan) ≡ Ok new → IsPassed q v
+        → IsPassed new (after_plan plan v) }
+    ensures submissions { (q new : KeyedAds) (v : ScheddValue) (first : JobId)
+        → ((key : Key) → IsPeriodic new key → is_gt (key_cmp (Proc first) key) ≡ true
+        → IsPeriodic q key) → IsPassed q v → IsPassed new (with_new (Proc first) v) }
 {}

@@ -4,6 +4,7 @@
 #![tactic(auto)]
 
 mod answer;
+mod due_checks;
 pub mod laws;
 mod looks;
 mod reopened;

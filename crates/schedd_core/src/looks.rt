@@ -5,7 +5,8 @@ ghost use Rattle.std.specs.BTreeMap.{insert_entry};
 ghost use Rattle.std.specs.Map.{lookup, remove_entry};
 ghost use Rattle.std.specs.Option.{option_copied};
 ghost use Rattle.queue_tx.specs.Keys.{key_cmp, same_key};
-ghost use Rattle.schedd_core.specs.Looks.{IsOldest, SetsTimes, look_of};
+ghost use Rattle.schedd_core.specs.DueChecks.{was_checked};
+ghost use Rattle.schedd_core.specs.Looks.{FirstLook, IsOldest, SetsTimes, look_of};
 
 use ad_value::Memory;
 use ordered_map::{NewEntry, OrderedMap};
@@ -113,6 +114,13 @@ impl Looks {
         self.by_job.get(key)
     }
 
+    /// Whether a job was looked at.
+    pub(crate) fn has(&self, key: &Key) -> bool
+        ensures { result ≡ was_checked self.now key.now }
+    {
+        self.by_job.get(key).is_some()
+    }
+
     /// A job is looked at. An error leaves all as it was.
     pub(crate) fn put(&mut self, alloc: Global, key: Key, at: u64) -> Result<(), Memory>
         ensures put { IfOk result (λ _. self.new ≡ insert_entry key_cmp self.old key at) }
@@ -134,6 +142,14 @@ impl Looks {
         let lost = last_look(&self.by_job, key);
         give_up(&mut self.by_time, lost);
         let _ = self.by_job.remove(key);
+    }
+
+    /// The first look past a bound.
+    pub(crate) fn first(&self, start: Bound<&Look>) -> Option<Look>
+        ensures { FirstLook self.now start.entry result }
+    {
+        let (look, _) = self.by_time.first_past(start)?;
+        Some(*look)
     }
 
     /// The job whose last look is the longest ago, and when that was.

@@ -1,16 +1,18 @@
-ghost use Rattle.std.specs.Prelude.{◌≡◌, Some, not, IfOk, OnErr, slice_get};
+ghost use Rattle.std.specs.Prelude.{◌≡◌, Some, true, not, IfOk, IfSome, OnErr, slice_get};
 ghost use Rattle.pool_view.specs.Numbers.{same_job};
 ghost use Rattle.queue_tx.specs.Queues.{ad_at};
 ghost use Rattle.queue_tx.specs.declared.key.Key.TheVariants.{Proc};
 ghost use Rattle.schedd_table.specs.JobPlaces.{job_place};
 ghost use Rattle.schedd_core.specs.Rows.{stage_known, run_known, mail_row, seen_row, gone_row, ended_row, noted, asked_in, after_row, after_mail};
 ghost use Rattle.schedd_core.specs.Ticks.{comes_first, line_of_place, line_of_claims, line_of_claim, tick_line, is_act, is_due, IsSought, IsSoughtBy, IsTicked, left_claims, after_past, later, after_lengthen, after_grant, after_give_up, after_line};
-ghost use Rattle.schedd_core.specs.Checks.{has_periodic, is_unchecked, is_check_due, policy_plan, after_check};
+ghost use Rattle.schedd_core.specs.Checks.{is_unchecked, is_check_due, policy_plan, after_check};
+ghost use Rattle.schedd_core.specs.DueChecks.{IsFirstDue, IsPassed, Passes, with_new};
 ghost use Rattle.schedd_core.specs.Looks.{IsOldest};
 ghost use Rattle.schedd_core.specs.Logging.{run_of_job, stops, is_marked, is_stopped, alives, activates, mails_of_plan, taken_off, after_plan, after_logged, IsReopened};
 ghost use Rattle.schedd_core.specs.Schedds.{nothing_done, plans, IsOpened, engages_job};
 
 use crate::answer::ScheddStep;
+use crate::due_checks::{first_due, job_of_key, passed_on};
 use crate::looks::Looks;
 use crate::reopened::{first_run, found_claims, found_runs, next_after, number_after, still_left};
 use crate::search::{first_free, under_jobs};
@@ -20,7 +22,7 @@ use ad_tree::Ad;
 use ad_value::{Copied, Memory};
 use claim_id::{ClaimId, ClaimNo, JobId, RunNo};
 use pool_mail::{How, Mail, MailList, Settings, request_ad};
-use queue_tx::{Key, Queue, kind_of};
+use queue_tx::{Key, Queue, has_periodic};
 use schedd_plan::{JobPlan, JobStatus, Reason, lease_until, status_of};
 use schedd_table::{
     ClaimLine, Fate, JobPlace, KeptClaim, KeptRun, MailRow, RunLine, Stage, TickLine, ad_of,
@@ -41,6 +43,7 @@ pub struct Schedd {
     claims: Vec<KeptClaim>,
     runs: Vec<KeptRun>,
     checked: Looks,
+    passed: Option<Key>,
     waiting: Option<JobPlan>,
 }
 
@@ -53,6 +56,7 @@ impl Drop for Schedd {
             claims: _claims,
             runs: _runs,
             checked: _checked,
+            passed: _,
             waiting: _,
         } = self;
     }
@@ -87,6 +91,7 @@ impl Model for Schedd {
       claims = s.claims.items;
       runs = s.runs.items;
       checked = s.checked;
+      passed = s.passed;
       waiting = s.waiting;
     } };
 }
@@ -104,6 +109,7 @@ impl Schedd {
             claims: Vec::new(alloc),
             runs: Vec::new(alloc),
             checked: Looks::new(),
+            passed: None,
             waiting: None,
         })
     }
@@ -663,6 +669,44 @@ impl Schedd {
         self.checked.oldest()
     }
 
+    /// The job whose check is due first: one that was never looked at since the pool opened or the
+    /// schedd came back, else the one that was looked at the longest ago; none where no check is
+    /// due. That it is the first, and that none is due, holds where the jobs up to the mark were
+    /// looked at (`IsPassed`; `laws::the_mark_stands`). Computes in O(log jobs), and the same again
+    /// for each job above the mark that was looked at before one that comes before it, without
+    /// memory.
+    pub fn first_check(&self, queue: &Queue, reading: u64) -> Option<JobId>
+        ensures due { IfSome result
+            (λ job. is_check_due self.now queue.now job reading ≡ true) }
+        ensures first { IsPassed queue.now self.now
+            → IsFirstDue self.now queue.now reading result }
+    {
+        let seconds = self.settings.periodic_interval;
+        job_of_key(first_due(&self.checked, queue, self.passed, seconds, reading))
+    }
+
+    /// Moves the mark up to which all jobs were looked at on, over those that were looked at since.
+    /// To be called after `check`, which is then cheap for `first_check`; passes over each look
+    /// once. The queue is the one as logged. Computes in O(log jobs) for each, without memory.
+    pub fn move_mark(&mut self, queue: &Queue)
+        ensures schedd { self.new ≡ record self.old { passed = self.new.passed } }
+        ensures passes { Passes queue.now self.old.checked self.old.passed self.new.passed }
+    {
+        self.passed = passed_on(&self.checked, queue, self.passed);
+    }
+
+    /// Jobs came into the queue, of which this one comes first: the mark goes back where it is not
+    /// below them. To be called once a submission is logged. Computes in O(1).
+    pub fn note_new(&mut self, job: JobId)
+        ensures { self.new ≡ with_new (Proc job) self.old }
+    {
+        if let Some(passed) = self.passed {
+            if passed >= Key::Proc(job) {
+                self.passed = None;
+            }
+        }
+    }
+
     // What the periodic expressions of a job want.
     fn policy_plan(
         &self,
@@ -858,6 +902,7 @@ impl Schedd {
         self.claims = claims;
         self.runs = runs;
         self.checked = Looks::new();
+        self.passed = None;
         self.waiting = None;
         Ok(ScheddStep::nothing(alloc))
     }
@@ -923,16 +968,6 @@ fn is_act(line: TickLine) -> bool
         TickLine::Nothing => false,
         _ => true,
     }
-}
-
-// Whether an ad has a periodic expression, and is one of a job.
-fn has_periodic(ad: &Ad) -> bool
-    ensures { result ≡ has_periodic ad.now }
-{
-    kind_of(ad).is_some()
-        && (ad.get(PERIODIC_HOLD).is_some()
-            || ad.get(PERIODIC_REMOVE).is_some()
-            || ad.get(PERIODIC_RELEASE).is_some())
 }
 
 fn is_other(other: JobId, job: JobId) -> bool
