@@ -19,7 +19,7 @@ use Rattle.schedd_plan.specs.declared.plan.JobPlan.{JobPlan}
 use Rattle.schedd_plan.specs.declared.plan.JobPlan.TheVariants as plan
 use Rattle.schedd_plan.specs.Plans.{plan_ops}
 use Rattle.schedd_plan.specs.declared.status.JobStatus.{JobStatus}
-use Rattle.schedd_plan.specs.Reading.{status_of}
+use Rattle.schedd_plan.specs.JobAttributes.{status_of}
 use Rattle.schedd_table.specs.JobPlaces.{is_left, kind_place, place_by}
 use Rattle.schedd_table.specs.MailTable.{order_row}
 use Rattle.schedd_table.specs.OrderTable.{remove_plan}

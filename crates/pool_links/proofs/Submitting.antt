@@ -180,9 +180,9 @@ module _ (p : Protocol) (a : PoolParts) (ids : List JobId) (tx : List Operation)
     where
       by : New job ⊎ Old job → IsIn job p.removals
       by (inl n) =
-          let its = subst (λ o. IsSomeAnd o (λ ad. (Rattle.schedd_plan.specs.Reading.status_of ad ≡ Rattle.schedd_plan.specs.declared.status.JobStatus.TheVariants.Removed) × (kind_of ad ≡ Some kind.Under))) n.ad_is marked in
+          let its = subst (λ o. IsSomeAnd o (λ ad. (Rattle.schedd_plan.specs.JobAttributes.status_of ad ≡ Rattle.schedd_plan.specs.declared.status.JobStatus.TheVariants.Removed) × (kind_of ad ≡ Some kind.Under))) n.ad_is marked in
           let clash : Some kind.Idle ≡ Some kind.Under = sym n.kind_is ∙ its.1 in cc
-      by (inr o) = linked.schedd.marked job (subst (λ ad. IsSomeAnd ad (λ ad. (Rattle.schedd_plan.specs.Reading.status_of ad ≡ Rattle.schedd_plan.specs.declared.status.JobStatus.TheVariants.Removed) × (kind_of ad ≡ Some kind.Under))) o.ad marked)
+      by (inr o) = linked.schedd.marked job (subst (λ ad. IsSomeAnd ad (λ ad. (Rattle.schedd_plan.specs.JobAttributes.status_of ad ≡ Rattle.schedd_plan.specs.declared.status.JobStatus.TheVariants.Removed) × (kind_of ad ≡ Some kind.Under))) o.ad marked)
 
   pub part_then : IsPart x new a.schedd
   part_then = record {

@@ -25,7 +25,7 @@ use Rattle.queue_tx.specs.Operations.{Operation}
 use Rattle.queue_tx.specs.Queues.{KeyedAds, after_rest, queue_after}
 use Rattle.queue_record.specs.declared.error.RecordError.TheVariants.{TooLong}
 use Rattle.queue_record.specs.Entries.{stamped, entry_at}
-use Rattle.queue_record.specs.Reading.{Reading, start, refused, stamps, after_entry, with_bytes, fed}
+use Rattle.queue_record.specs.ReadSoFar.{ReadSoFar, start, refused, stamps, after_entry, with_bytes, fed}
 use Rattle.queue_record.specs.Records.{Record}
 use Rattle.queue_record.specs.Texts.{AreTexts, first_long, tx_text}
 use Rattle.queue_record.specs.Logs.{Settles}
@@ -181,6 +181,6 @@ new_is n queue small fits texts done =
     let r = stamps (with_bytes start (stamp_line n)) 1 in
     let e = text_settles r new_log_tx queue new_printable fits texts refl refl refl done in
     let joined : fed r (tx_text new_log_tx) ≡ fed start (new_log_text n) =
-    ap (λ (z : Reading). fed z (tx_text new_log_tx)) (sym (stamp_read n small)) ∙ sym (fed_append start (stamp_line n ++ codes "\n") (tx_text new_log_tx)) ∙ ap (fed start) (sym (text_parts n)) in
+    ap (λ (z : ReadSoFar). fed z (tx_text new_log_tx)) (sym (stamp_read n small)) ∙ sym (fed_append start (stamp_line n ++ codes "\n") (tx_text new_log_tx)) ∙ ap (fed start) (sym (text_parts n)) in
     let f : Settles r (fed start (new_log_text n)) new_log_tx queue = subst (λ z. Settles r z new_log_tx queue) joined e in
     record { settled = record { at_rest = f.at_rest; listed = f.listed; queued = f.queued }; sequenced = f.sequenced }

@@ -6,7 +6,7 @@ use Rattle.queue_tx.specs.Queues.{KeyedAds}
 use Rattle.queue_record.specs.declared.error.RecordError.{RecordError}
 use Rattle.queue_record.specs.declared.error.RecordError.TheVariants as line
 use Rattle.queue_record.specs.declared.reader.ReadLog.{ReadLog}
-use Rattle.queue_record.specs.Reading.{start, fed}
+use Rattle.queue_record.specs.ReadSoFar.{start, fed}
 use Rattle.queue_log.specs.declared.error.LogError.{LogError}
 use Rattle.queue_log.specs.declared.error.LogError.TheVariants.{BadRecord, Limit, Disk, Memory}
 use Rattle.queue_log.specs.declared.recover.Opening.{Opening}

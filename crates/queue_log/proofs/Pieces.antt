@@ -3,7 +3,7 @@ use Rattle.std.proofs.Common.{◌≡◌, ℕ, zero, suc, ◌+◌, ◌-◌, ◌<�
 use Rattle.std.specs.Option.{option_map}
 use Rattle.pool_outer.specs.Files.{bytes_in}
 use Rattle.queue_record.specs.declared.error.RecordError.{RecordError}
-use Rattle.queue_record.specs.Reading.{Reading, start, fed}
+use Rattle.queue_record.specs.ReadSoFar.{ReadSoFar, start, fed}
 use Rattle.queue_record.proofs.Feeding.{fed_append}
 use Rattle.queue_log.specs.Files.{MeetsBadLine}
 use Rattle.queue_log.specs.Stands.{bad_line, line_of}
@@ -23,13 +23,13 @@ take_more (suc m) n (x ∷ xs) le =
     ap (λ (z : List ℕ). x ∷ z) (take_more m n xs (omega arith)) ∙ ap (λ k. take k (x ∷ xs)) same
 
 -- a further piece
-pub reads_on : (reader new : Reading) (bytes piece : List ℕ) (place n next : ℕ) → reader ≡ fed start (take place bytes) → new ≡ fed reader (take n piece) → take n piece ≡ take n (drop place bytes)
+pub reads_on : (reader new : ReadSoFar) (bytes piece : List ℕ) (place n next : ℕ) → reader ≡ fed start (take place bytes) → new ≡ fed reader (take n piece) → take n piece ≡ take n (drop place bytes)
     → n ≤ length (drop place bytes) → length bytes < 2 ^ 64 → place ≤ length bytes → next ≡ min (place + n) (2 ^ 64 - 1) → (new ≡ fed start (take next bytes)) × (next ≤ length bytes)
 reads_on reader new bytes piece place n next is more same fits small within sum =
     let size = length-drop place bytes in
     let whole : next ≡ place + n = omega (arith, sum, size) in (
       more
-          ∙ ap (λ (r : Reading). fed r (take n piece)) is
+          ∙ ap (λ (r : ReadSoFar). fed r (take n piece)) is
           ∙ ap (fed (fed start (take place bytes))) same
           ∙ sym (fed_append start (take place bytes) (take n (drop place bytes)))
           ∙ ap (fed start) (take_more place n bytes within)
@@ -38,7 +38,7 @@ reads_on reader new bytes piece place n next is more same fits small within sum 
     )
 
 -- the last piece
-pub reads_all : (reader : Reading) (bytes : List ℕ) (place : ℕ) → reader ≡ fed start (take place bytes) → length bytes ≤ place → reader ≡ fed start bytes
+pub reads_all : (reader : ReadSoFar) (bytes : List ℕ) (place : ℕ) → reader ≡ fed start (take place bytes) → length bytes ≤ place → reader ≡ fed start bytes
 reads_all reader bytes place is le = is ∙ ap (fed start) (take_all place bytes le)
 
 -- ---- a bad line
@@ -47,12 +47,12 @@ has_error : (o : Option RecordError) (line : ℕ) → line_of o ≡ Some line �
 has_error None line h = absurd (cc h)
 has_error (Some e) line h = (e, refl)
 
-stays_bad : (r : Reading) (bs : List ℕ) (line : ℕ) → line_of r.refusal ≡ Some line → line_of (fed r bs).refusal ≡ Some line
+stays_bad : (r : ReadSoFar) (bs : List ℕ) (line : ℕ) → line_of r.refusal ≡ Some line → line_of (fed r bs).refusal ≡ Some line
 stays_bad r bs line h =
     let e = has_error r.refusal line h in
-    ap (λ (s : Reading). line_of s.refusal) (refused_stays r bs e.0 e.1) ∙ h
+    ap (λ (s : ReadSoFar). line_of s.refusal) (refused_stays r bs e.0 e.1) ∙ h
 
-pub bad_line_met : (reader : Reading) (bytes : List ℕ) (place line : ℕ) → reader ≡ fed start (take place bytes) → MeetsBadLine reader bytes place line → bad_line bytes ≡ Some line
+pub bad_line_met : (reader : ReadSoFar) (bytes : List ℕ) (place line : ℕ) → reader ≡ fed start (take place bytes) → MeetsBadLine reader bytes place line → bad_line bytes ≡ Some line
 bad_line_met reader bytes place line is met =
     let rest = drop place bytes in
     let piece = take met.count rest in
@@ -60,8 +60,8 @@ bad_line_met reader bytes place line is met =
     let parts : bytes ≡ take place bytes ++ (piece ++ behind) = take_and_drop place bytes ∙ ap (λ (z : List ℕ). take place bytes ++ z) (take_and_drop met.count rest) in
     let whole : fed start bytes ≡ fed (fed reader piece) behind =
     ap (fed start) parts ∙ fed_append start (take place bytes) (piece ++ behind) ∙ fed_append (fed start (take place bytes)) piece behind
-    ∙ ap (λ (r : Reading). fed (fed r piece) behind) (sym is) in
-    ap (λ (r : Reading). line_of r.refusal) whole ∙ stays_bad (fed reader piece) behind line met.bad
+    ∙ ap (λ (r : ReadSoFar). fed (fed r piece) behind) (sym is) in
+    ap (λ (r : ReadSoFar). line_of r.refusal) whole ∙ stays_bad (fed reader piece) behind line met.bad
 
 -- ---- the bytes of a file that is cut
 

@@ -7,52 +7,52 @@ use Rattle.queue_tx.specs.Queues.{KeyedAds, queue_after}
 use Rattle.queue_record.specs.declared.error.RecordError.{RecordError}
 use Rattle.queue_record.specs.declared.error.RecordError.TheVariants.{TooLong}
 use Rattle.queue_record.specs.Entries.{Entry, begins, ends, does, stamped, entry_at}
-use Rattle.queue_record.specs.Reading.{Reading, start, refused, counted, counted_all, takes_in, after_entry, after_line, in_line, after_byte, fed}
+use Rattle.queue_record.specs.ReadSoFar.{ReadSoFar, start, refused, counted, counted_all, takes_in, after_entry, after_line, in_line, after_byte, fed}
 use Rattle.queue_record.specs.Logs.{IsAtRest, Stays}
 use Rattle.queue_record.proofs.Feeding.{fed_append, counted_is}
 use Rattle.queue_log.specs.Stands.{Stands, IsSettled}
 
 -- ---- refusals stay
 
-still : (o : Option RecordError) (r : Reading) (b : ℕ) (e : RecordError) → o ≡ Some e → after_byte o r b ≡ r
+still : (o : Option RecordError) (r : ReadSoFar) (b : ℕ) (e : RecordError) → o ≡ Some e → after_byte o r b ≡ r
 still None r b e h = absurd (cc h)
 still (Some f) r b e h = refl
 
-pub refused_stays : (r : Reading) (bs : List ℕ) (e : RecordError) → r.refusal ≡ Some e → fed r bs ≡ r
+pub refused_stays : (r : ReadSoFar) (bs : List ℕ) (e : RecordError) → r.refusal ≡ Some e → fed r bs ≡ r
 refused_stays r [] e h = refl
-refused_stays r (b ∷ bs) e h = ap (λ (s : Reading). fed s bs) (still r.refusal r b e h) ∙ refused_stays r bs e h
+refused_stays r (b ∷ bs) e h = ap (λ (s : ReadSoFar). fed s bs) (still r.refusal r b e h) ∙ refused_stays r bs e h
 
-pub good_before : (r : Reading) (bs : List ℕ) → (fed r bs).refusal ≡ None → r.refusal ≡ None
+pub good_before : (r : ReadSoFar) (bs : List ℕ) → (fed r bs).refusal ≡ None → r.refusal ≡ None
 good_before r bs good = by r.refusal refl
   where
     by : (o : Option RecordError) → r.refusal ≡ o → r.refusal ≡ None
     by None e = e
     by (Some f) e =
-        let clash : None ≡ Some f = sym good ∙ ap (λ (s : Reading). s.refusal) (refused_stays r bs f e) ∙ e in
+        let clash : None ≡ Some f = sym good ∙ ap (λ (s : ReadSoFar). s.refusal) (refused_stays r bs f e) ∙ e in
         absurd (cc clash)
 
 -- ---- what a byte does
 
 -- whole lines are read, and they are what counts
-record Ends (s : Reading) : Type 0 where
+record Ends (s : ReadSoFar) : Type 0 where
   rest : IsAtRest s
   wholly : s.whole ≡ s.size
 
-record Kind (r s : Reading) : Type 0 where
+record Kind (r s : ReadSoFar) : Type 0 where
   sized : s.size ≡ counted r.size 1
   kind : Stays r s ⊎ Ends s
 
-ended : (r s : Reading) → s.size ≡ counted r.size 1 → s.refusal ≡ None → s.part ≡ [] → s.opened ≡ None → s.whole ≡ s.size → Kind r s
+ended : (r s : ReadSoFar) → s.size ≡ counted r.size 1 → s.refusal ≡ None → s.part ≡ [] → s.opened ≡ None → s.whole ≡ s.size → Kind r s
 ended r s size good none opened wholly = record { sized = size; kind = inr (record { rest = record { good = good; no_part = none; none_open = opened }; wholly = wholly }) }
 
-stayed : (r s : Reading) → s.size ≡ counted r.size 1 → s.refusal ≡ None → s.list ≡ r.list → s.queue ≡ r.queue → s.whole ≡ r.whole → s.sequence ≡ r.sequence → Kind r s
+stayed : (r s : ReadSoFar) → s.size ≡ counted r.size 1 → s.refusal ≡ None → s.list ≡ r.list → s.queue ≡ r.queue → s.whole ≡ r.whole → s.sequence ≡ r.sequence → Kind r s
 stayed r s size good list queue whole sequence = record { sized = size; kind = inl (record { good = good; listed = list; queued = queue; wholly = whole; sequenced = sequence }) }
 
-takes_kind : (r : Reading) (ops : List Operation) (first : ℕ) (res : Result KeyedAds ApplyError) → (takes_in r ops first res).refusal ≡ None → Kind r (takes_in r ops first res)
+takes_kind : (r : ReadSoFar) (ops : List Operation) (first : ℕ) (res : Result KeyedAds ApplyError) → (takes_in r ops first res).refusal ≡ None → Kind r (takes_in r ops first res)
 takes_kind r ops first (Err f) good = absurd (cc good)
 takes_kind r ops first (Ok q) good = ended r (takes_in r ops first (Ok q)) refl refl refl refl refl
 
-entry_kind : (r : Reading) (o : Option (List Operation)) (e : Option Entry) → (after_entry r o e).refusal ≡ None → Kind r (after_entry r o e)
+entry_kind : (r : ReadSoFar) (o : Option (List Operation)) (e : Option Entry) → (after_entry r o e).refusal ≡ None → Kind r (after_entry r o e)
 entry_kind r o None good = absurd (cc good)
 entry_kind r None (Some begins) good = stayed r (after_entry r None (Some begins)) refl refl refl refl refl refl
 entry_kind r (Some ops) (Some begins) good = absurd (cc good)
@@ -63,23 +63,23 @@ entry_kind r (Some ops) (Some (does p)) good = stayed r (after_entry r (Some ops
 entry_kind r None (Some (stamped n)) good = ended r (after_entry r None (Some (stamped n))) refl refl refl refl refl
 entry_kind r (Some ops) (Some (stamped n)) good = absurd (cc good)
 
-line_kind : (r : Reading) (t : Bool) → (cond t (refused (TooLong r.line)) (after_entry r r.opened (entry_at r.part))).refusal ≡ None
+line_kind : (r : ReadSoFar) (t : Bool) → (cond t (refused (TooLong r.line)) (after_entry r r.opened (entry_at r.part))).refusal ≡ None
     → Kind r (cond t (refused (TooLong r.line)) (after_entry r r.opened (entry_at r.part)))
 line_kind r true good = absurd (cc good)
 line_kind r false good = entry_kind r r.opened (entry_at r.part) good
 
-newline_kind : (r : Reading) (b : ℕ) (t : Bool) → (cond t (after_line r) (in_line r b)).refusal ≡ None → Kind r (cond t (after_line r) (in_line r b))
+newline_kind : (r : ReadSoFar) (b : ℕ) (t : Bool) → (cond t (after_line r) (in_line r b)).refusal ≡ None → Kind r (cond t (after_line r) (in_line r b))
 newline_kind r b true good = line_kind r (ltb 16384 (length r.part)) good
 newline_kind r b false good = stayed r (in_line r b) refl refl refl refl refl refl
 
-byte_kind : (o : Option RecordError) (r : Reading) (b : ℕ) → (after_byte o r b).refusal ≡ None → r.refusal ≡ o → Kind r (after_byte o r b)
+byte_kind : (o : Option RecordError) (r : ReadSoFar) (b : ℕ) → (after_byte o r b).refusal ≡ None → r.refusal ≡ o → Kind r (after_byte o r b)
 byte_kind None r b good is = newline_kind r b (b == 10) good
 byte_kind (Some e) r b good is = let clash : Some e ≡ None = sym is ∙ good in absurd (cc clash)
 
 -- ---- what bytes do
 
 -- the last of these bytes that ends something
-record Last (r : Reading) (bs : List ℕ) : Type 0 where
+record Last (r : ReadSoFar) (bs : List ℕ) : Type 0 where
   count : ℕ
   some : 0 < count
   within : count ≤ length bs
@@ -88,7 +88,7 @@ record Last (r : Reading) (bs : List ℕ) : Type 0 where
   queued : (fed r (take count bs)).queue ≡ (fed r bs).queue
   wholly : (fed r bs).whole ≡ (fed r (take count bs)).size
 
-further : (r : Reading) (b : ℕ) (bs : List ℕ) → Stays r (after_byte r.refusal r b) ⊎ Ends (after_byte r.refusal r b)
+further : (r : ReadSoFar) (b : ℕ) (bs : List ℕ) → Stays r (after_byte r.refusal r b) ⊎ Ends (after_byte r.refusal r b)
     → Stays (after_byte r.refusal r b) (fed (after_byte r.refusal r b) bs) ⊎ Last (after_byte r.refusal r b) bs → Stays r (fed r (b ∷ bs)) ⊎ Last r (b ∷ bs)
 further r b bs k (inr l) =
     let w = l.within in
@@ -98,14 +98,14 @@ further r b bs (inl here) (inl s) =
 further r b bs (inr e) (inl s) =
     inr (record { count = suc zero; some = omega arith; within = omega arith; rest = e.rest; listed = sym s.listed; queued = sym s.queued; wholly = s.wholly ∙ e.wholly })
 
-goes : (r : Reading) (bs : List ℕ) → (fed r bs).refusal ≡ None → Stays r (fed r bs) ⊎ Last r bs
+goes : (r : ReadSoFar) (bs : List ℕ) → (fed r bs).refusal ≡ None → Stays r (fed r bs) ⊎ Last r bs
 goes r [] good = inl (record { good = good; listed = refl; queued = refl; wholly = refl; sequenced = refl })
 goes r (b ∷ bs) good =
     let s = after_byte r.refusal r b in
     let k = byte_kind r.refusal r b (good_before s bs good) refl in
     further r b bs k.kind (goes s bs good)
 
-size_all : (r : Reading) (bs : List ℕ) → (fed r bs).refusal ≡ None → (fed r bs).size ≡ counted_all r.size bs
+size_all : (r : ReadSoFar) (bs : List ℕ) → (fed r bs).refusal ≡ None → (fed r bs).size ≡ counted_all r.size bs
 size_all r [] good = refl
 size_all r (b ∷ bs) good =
     let s = after_byte r.refusal r b in
@@ -159,8 +159,8 @@ prefix_by : (bytes image rest : List ℕ) → length bytes < 2 ^ 64 → (fed sta
     → Stays (fed start image) (fed (fed start image) rest) ⊎ Last (fed start image) rest → Stands (fed start bytes).list image
 prefix_by bytes image rest small good parts long (inl s) =
     let whole : fed start bytes ≡ fed (fed start image) rest = ap (fed start) parts ∙ fed_append start image rest in
-    let good' : (fed (fed start image) rest).refusal ≡ None = ap (λ (r : Reading). r.refusal) (sym whole) ∙ good in
-    record { good = good_before (fed start image) rest good'; listed = sym s.listed ∙ ap (λ (r : Reading). r.list) (sym whole) }
+    let good' : (fed (fed start image) rest).refusal ≡ None = ap (λ (r : ReadSoFar). r.refusal) (sym whole) ∙ good in
+    record { good = good_before (fed start image) rest good'; listed = sym s.listed ∙ ap (λ (r : ReadSoFar). r.list) (sym whole) }
 prefix_by bytes image rest small good parts long (inr l) =
     let whole : fed start bytes ≡ fed (fed start image) rest = ap (fed start) parts ∙ fed_append start image rest in
     let more = take l.count rest in
@@ -169,9 +169,9 @@ prefix_by bytes image rest small good parts long (inr l) =
     let total : length bytes ≡ length image + length rest = ap length parts ∙ length-append image rest in
     let sum = length-append image more in
     let cut = take_length l.count rest l.within in
-    let fine : (fed start (image ++ more)).refusal ≡ None = ap (λ (r : Reading). r.refusal) (sym joined) ∙ l.rest.good in
+    let fine : (fed start (image ++ more)).refusal ≡ None = ap (λ (r : ReadSoFar). r.refusal) (sym joined) ∙ l.rest.good in
     let size : (fed start (image ++ more)).size ≡ length (image ++ more) = size_is (image ++ more) (omega arith) fine in
-    let ends : (fed start bytes).whole ≡ length (image ++ more) = ap (λ (r : Reading). r.whole) whole ∙ l.wholly ∙ ap (λ (r : Reading). r.size) joined ∙ size in
+    let ends : (fed start bytes).whole ≡ length (image ++ more) = ap (λ (r : ReadSoFar). r.whole) whole ∙ l.wholly ∙ ap (λ (r : ReadSoFar). r.size) joined ∙ size in
     let some = l.some in
     absurd (omega (arith, ends, sum, cut, some, long))
 
@@ -180,22 +180,22 @@ prefix_stands bytes image small good front long =
     let rest = drop (length image) bytes in
     let parts : bytes ≡ image ++ rest = take_and_drop (length image) bytes ∙ ap (λ (z : List ℕ). z ++ rest) (sym front) in
     let whole : fed start bytes ≡ fed (fed start image) rest = ap (fed start) parts ∙ fed_append start image rest in
-    prefix_by bytes image rest small good parts long (goes (fed start image) rest (ap (λ (r : Reading). r.refusal) (sym whole) ∙ good))
+    prefix_by bytes image rest small good parts long (goes (fed start image) rest (ap (λ (r : ReadSoFar). r.refusal) (sym whole) ∙ good))
 
 -- ---- no byte takes a transaction away
 
-record Grows (r s : Reading) : Type 0 where
+record Grows (r s : ReadSoFar) : Type 0 where
   more : List (List Operation)
   listed : s.list ≡ r.list ++ more
 
-stays_short : (r s : Reading) → s.list ≡ r.list → Grows r s
+stays_short : (r s : ReadSoFar) → s.list ≡ r.list → Grows r s
 stays_short r s same = record { more = []; listed = same ∙ sym (append-nil r.list) }
 
-takes_grows : (r : Reading) (ops : List Operation) (first : ℕ) (res : Result KeyedAds ApplyError) → (takes_in r ops first res).refusal ≡ None → Grows r (takes_in r ops first res)
+takes_grows : (r : ReadSoFar) (ops : List Operation) (first : ℕ) (res : Result KeyedAds ApplyError) → (takes_in r ops first res).refusal ≡ None → Grows r (takes_in r ops first res)
 takes_grows r ops first (Err f) good = absurd (cc good)
 takes_grows r ops first (Ok q) good = record { more = ops ∷ []; listed = refl }
 
-entry_grows : (r : Reading) (o : Option (List Operation)) (e : Option Entry) → (after_entry r o e).refusal ≡ None → Grows r (after_entry r o e)
+entry_grows : (r : ReadSoFar) (o : Option (List Operation)) (e : Option Entry) → (after_entry r o e).refusal ≡ None → Grows r (after_entry r o e)
 entry_grows r o None good = absurd (cc good)
 entry_grows r None (Some begins) good = stays_short r (after_entry r None (Some begins)) refl
 entry_grows r (Some ops) (Some begins) good = absurd (cc good)
@@ -206,20 +206,20 @@ entry_grows r (Some ops) (Some (does p)) good = stays_short r (after_entry r (So
 entry_grows r None (Some (stamped n)) good = stays_short r (after_entry r None (Some (stamped n))) refl
 entry_grows r (Some ops) (Some (stamped n)) good = absurd (cc good)
 
-line_grows : (r : Reading) (t : Bool) → (cond t (refused (TooLong r.line)) (after_entry r r.opened (entry_at r.part))).refusal ≡ None
+line_grows : (r : ReadSoFar) (t : Bool) → (cond t (refused (TooLong r.line)) (after_entry r r.opened (entry_at r.part))).refusal ≡ None
     → Grows r (cond t (refused (TooLong r.line)) (after_entry r r.opened (entry_at r.part)))
 line_grows r true good = absurd (cc good)
 line_grows r false good = entry_grows r r.opened (entry_at r.part) good
 
-newline_grows : (r : Reading) (b : ℕ) (t : Bool) → (cond t (after_line r) (in_line r b)).refusal ≡ None → Grows r (cond t (after_line r) (in_line r b))
+newline_grows : (r : ReadSoFar) (b : ℕ) (t : Bool) → (cond t (after_line r) (in_line r b)).refusal ≡ None → Grows r (cond t (after_line r) (in_line r b))
 newline_grows r b true good = line_grows r (ltb 16384 (length r.part)) good
 newline_grows r b false good = stays_short r (in_line r b) refl
 
-byte_grows : (o : Option RecordError) (r : Reading) (b : ℕ) → (after_byte o r b).refusal ≡ None → Grows r (after_byte o r b)
+byte_grows : (o : Option RecordError) (r : ReadSoFar) (b : ℕ) → (after_byte o r b).refusal ≡ None → Grows r (after_byte o r b)
 byte_grows None r b good = newline_grows r b (b == 10) good
 byte_grows (Some e) r b good = stays_short r r refl
 
-grows : (r : Reading) (bs : List ℕ) → (fed r bs).refusal ≡ None → Grows r (fed r bs)
+grows : (r : ReadSoFar) (bs : List ℕ) → (fed r bs).refusal ≡ None → Grows r (fed r bs)
 grows r [] good = stays_short r r refl
 grows r (b ∷ bs) good =
     let s = after_byte r.refusal r b in
@@ -238,10 +238,10 @@ one_or_none bytes image tx good one front =
     let rest = drop (length image) bytes in
     let parts : bytes ≡ image ++ rest = take_and_drop (length image) bytes ∙ ap (λ (z : List ℕ). z ++ rest) (sym front) in
     let whole : fed start bytes ≡ fed (fed start image) rest = ap (fed start) parts ∙ fed_append start image rest in
-    let good' : (fed (fed start image) rest).refusal ≡ None = ap (λ (r : Reading). r.refusal) (sym whole) ∙ good in
+    let good' : (fed (fed start image) rest).refusal ≡ None = ap (λ (r : ReadSoFar). r.refusal) (sym whole) ∙ good in
     let fine = good_before (fed start image) rest good' in
     let g = grows (fed start image) rest good' in
-    by fine (front_of_one (fed start image).list g.more tx (sym one ∙ ap (λ (r : Reading). r.list) whole ∙ g.listed))
+    by fine (front_of_one (fed start image).list g.more tx (sym one ∙ ap (λ (r : ReadSoFar). r.list) whole ∙ g.listed))
   where
     by : (fed start image).refusal ≡ None → ((fed start image).list ≡ []) ⊎ ((fed start image).list ≡ tx ∷ []) → Stands [] image ⊎ Stands (tx ∷ []) image
     by fine (inl none) = inl (record { good = fine; listed = none })

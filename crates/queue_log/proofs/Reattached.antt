@@ -6,7 +6,7 @@ use Rattle.receipt_roll.specs.Values.{ReceiptValue}
 use Rattle.queue_tx.specs.Operations.{Operation}
 use Rattle.queue_tx.specs.Queues.{KeyedAds}
 use Rattle.queue_record.specs.declared.reader.ReadLog.{ReadLog}
-use Rattle.queue_record.specs.Reading.{start, fed}
+use Rattle.queue_record.specs.ReadSoFar.{start, fed}
 use Rattle.queue_record.specs.Logs.{Stays}
 use Rattle.queue_record.specs.Texts.{tx_text}
 use Rattle.queue_record.proofs.Feeding.{fed_append}

@@ -4,7 +4,7 @@ use Rattle.pool_outer.specs.Files.{Contents, Images, Lengths, Leaves, IsImage, b
 use Rattle.solid_file.specs.Moments.{IsReached, KeepsFile, LeavesOnly}
 use Rattle.solid_file.proofs.Moments.{joins, leaves_fewer, weaker}
 use Rattle.queue_tx.specs.Queues.{KeyedAds}
-use Rattle.queue_record.specs.Reading.{start, fed}
+use Rattle.queue_record.specs.ReadSoFar.{start, fed}
 use Rattle.queue_log.specs.Logs.{IsUncut, LeavesOpening, StandsForOpening}
 use Rattle.queue_log.specs.NewLog.{new_log_text, new_log_tx}
 use Rattle.queue_log.specs.Stands.{IsSettled, Stands, StandsAs, bad_line, line_of}

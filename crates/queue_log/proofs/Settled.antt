@@ -7,7 +7,7 @@ use Rattle.pool_outer.specs.Files.{IsImage}
 use Rattle.solid_file.specs.Moments.{IsReached}
 use Rattle.queue_tx.specs.Operations.{Operation}
 use Rattle.queue_tx.specs.Queues.{KeyedAds, queue_after}
-use Rattle.queue_record.specs.Reading.{start, fed}
+use Rattle.queue_record.specs.ReadSoFar.{start, fed}
 use Rattle.queue_record.specs.Logs.{Settles, Stays}
 use Rattle.queue_record.specs.Texts.{AreTexts, op_line, ops_text, tx_text}
 use Rattle.queue_record.proofs.Feeding.{fed_append}

@@ -8,7 +8,7 @@ use Rattle.queue_record.specs.declared.error.RecordError.{RecordError}
 use Rattle.queue_record.specs.declared.error.RecordError.TheVariants.{BadRecord, TooLong}
 use Rattle.queue_record.specs.Entries.{Entry, begins, ends, does, stamped, entry_at}
 use Rattle.queue_record.specs.Records.{SaysAfter}
-use Rattle.queue_record.specs.Reading.{Reading, start, refused, refusal_of, counted, takes_in, after_entry, after_line, in_line, after_byte, fed}
+use Rattle.queue_record.specs.ReadSoFar.{ReadSoFar, start, refused, refusal_of, counted, takes_in, after_entry, after_line, in_line, after_byte, fed}
 use Rattle.queue_record.proofs.LogLemmas.{applies_push}
 use Rattle.queue_record.proofs.RecordLemmas.{read_is_record}
 use Rattle.queue_log.specs.Files.{IsSound}
@@ -37,7 +37,7 @@ push_puts (p ∷ os) o all one = (all.0, push_puts os o all.1 one)
 refused_sound : (e : RecordError) → IsSound (refused e)
 refused_sound e = record { builds = refl; writable = tt; puts_writable = tt }
 
-takes_sound : (r : Reading) (ops : List Operation) (first : ℕ) (res : Result KeyedAds ApplyError) → QueueOf r.list r.queue → IsWritableQueue r.queue → AllPutWritable ops
+takes_sound : (r : ReadSoFar) (ops : List Operation) (first : ℕ) (res : Result KeyedAds ApplyError) → QueueOf r.list r.queue → IsWritableQueue r.queue → AllPutWritable ops
     → queue_after r.queue ops ≡ res → IsSound (takes_in r ops first res)
 takes_sound r ops first (Err f) builds writable puts is = refused_sound (refusal_of first f)
 takes_sound r ops first (Ok q) builds writable puts is = record {
@@ -46,7 +46,7 @@ takes_sound r ops first (Ok q) builds writable puts is = record {
   puts_writable = tt;
 }
 
-entry_sound : (r : Reading) (o : Option (List Operation)) (e : Option Entry) → QueueOf r.list r.queue → IsWritableQueue r.queue → IfSome o AllPutWritable → ((p : Operation) → e ≡ Some (does p) → PutsWritable p)
+entry_sound : (r : ReadSoFar) (o : Option (List Operation)) (e : Option Entry) → QueueOf r.list r.queue → IsWritableQueue r.queue → IfSome o AllPutWritable → ((p : Operation) → e ≡ Some (does p) → PutsWritable p)
     → IsSound (after_entry r o e)
 entry_sound r o None builds writable puts one = refused_sound (BadRecord r.line)
 entry_sound r None (Some begins) builds writable puts one = record { builds = builds; writable = writable; puts_writable = tt }
@@ -58,19 +58,19 @@ entry_sound r (Some ops) (Some (does p)) builds writable puts one = record { bui
 entry_sound r None (Some (stamped n)) builds writable puts one = record { builds = builds; writable = writable; puts_writable = tt }
 entry_sound r (Some ops) (Some (stamped n)) builds writable puts one = refused_sound (BadRecord r.line)
 
-line_sound : (r : Reading) (t : Bool) → IsSound r → IsSound (cond t (refused (TooLong r.line)) (after_entry r r.opened (entry_at r.part)))
+line_sound : (r : ReadSoFar) (t : Bool) → IsSound r → IsSound (cond t (refused (TooLong r.line)) (after_entry r r.opened (entry_at r.part)))
 line_sound r true s = refused_sound (TooLong r.line)
 line_sound r false s = entry_sound r r.opened (entry_at r.part) s.builds s.writable s.puts_writable (line_puts r.part)
 
-newline_sound : (r : Reading) (b : ℕ) (t : Bool) → IsSound r → IsSound (cond t (after_line r) (in_line r b))
+newline_sound : (r : ReadSoFar) (b : ℕ) (t : Bool) → IsSound r → IsSound (cond t (after_line r) (in_line r b))
 newline_sound r b true s = line_sound r (ltb 16384 (length r.part)) s
 newline_sound r b false s = record { builds = s.builds; writable = s.writable; puts_writable = s.puts_writable }
 
-byte_sound : (o : Option RecordError) (r : Reading) (b : ℕ) → IsSound r → IsSound (after_byte o r b)
+byte_sound : (o : Option RecordError) (r : ReadSoFar) (b : ℕ) → IsSound r → IsSound (after_byte o r b)
 byte_sound None r b s = newline_sound r b (b == 10) s
 byte_sound (Some e) r b s = s
 
-pub sound_fed : (r : Reading) (bs : List ℕ) → IsSound r → IsSound (fed r bs)
+pub sound_fed : (r : ReadSoFar) (bs : List ℕ) → IsSound r → IsSound (fed r bs)
 sound_fed r [] s = s
 sound_fed r (b ∷ bs) s = sound_fed (after_byte r.refusal r b) bs (byte_sound r.refusal r b s)
 

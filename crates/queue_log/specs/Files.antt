@@ -2,7 +2,7 @@
 use Rattle.std.specs.Prelude.{◌≡◌, ℕ, List, take, drop, Some, None, IfSome}
 use Rattle.pool_outer.specs.Cause.{Rose}
 use Rattle.queue_tx.specs.Queues.{QueueOf}
-use Rattle.queue_record.specs.Reading.{Reading, start, fed}
+use Rattle.queue_record.specs.ReadSoFar.{ReadSoFar, start, fed}
 use Rattle.queue_record.specs.declared.reader.ReadLog.{ReadLog}
 use Rattle.queue_log.specs.declared.error.LogError.{LogError}
 use Rattle.queue_log.specs.declared.error.LogError.TheVariants.{BadRecord, Limit, Disk, Memory}
@@ -11,7 +11,7 @@ use Rattle.queue_log.specs.Writable.{IsWritableQueue, AllPutWritable}
 
 -- what holds of whatever was read, however it came about: the queue is that of the list, and what
 -- is in it can be written
-pub record IsSound (r : Reading) : Type 0 where
+pub record IsSound (r : ReadSoFar) : Type 0 where
   pub builds : QueueOf r.list r.queue
   pub writable : IsWritableQueue r.queue
   pub puts_writable : IfSome r.opened AllPutWritable
@@ -25,7 +25,7 @@ pub record IsReadOf (bytes : List ℕ) (log : ReadLog) : Type 0 where
   pub sequenced : log.sequence ≡ (fed start bytes).sequence
 
 -- a piece of bytes from a place on makes a reading one with a bad line
-pub record MeetsBadLine (r : Reading) (bytes : List ℕ) (place line : ℕ) : Type 0 where
+pub record MeetsBadLine (r : ReadSoFar) (bytes : List ℕ) (place line : ℕ) : Type 0 where
   pub count : ℕ
   pub bad : line_of (fed r (take count (drop place bytes))).refusal ≡ Some line
 

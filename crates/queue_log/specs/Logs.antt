@@ -10,7 +10,7 @@ use Rattle.queue_tx.specs.Operations.{Operation}
 use Rattle.queue_tx.specs.Printable.{IsPrintable}
 use Rattle.queue_tx.specs.Queues.{KeyedAds, queue_after}
 use Rattle.queue_record.specs.Texts.{AreTexts, first_long, tx_text}
-use Rattle.queue_record.specs.Reading.{start, fed}
+use Rattle.queue_record.specs.ReadSoFar.{start, fed}
 use Rattle.queue_log.specs.declared.error.LogError.{LogError}
 use Rattle.queue_log.specs.declared.error.LogError.TheVariants.{BadRecord, Limit, Disk, Memory}
 use Rattle.queue_log.specs.declared.log.Halt.{Halt}

@@ -5,7 +5,7 @@ use Rattle.pool_outer.specs.declared.limit.Which.TheVariants.{Roll}
 use Rattle.receipt_roll.specs.declared.roll.TheConstants.{MAX_ITEMS}
 use Rattle.receipt_roll.specs.Values.{ReceiptValue}
 use Rattle.queue_tx.specs.Operations.{Operation}
-use Rattle.queue_record.specs.Reading.{start, fed}
+use Rattle.queue_record.specs.ReadSoFar.{start, fed}
 use Rattle.queue_log.specs.declared.error.LogError.{LogError}
 use Rattle.queue_log.specs.declared.error.LogError.TheVariants.{BadRecord, Limit, Disk, Memory}
 use Rattle.queue_log.specs.declared.log.Halt.{Halt}

@@ -4,7 +4,7 @@ use Rattle.queue_tx.specs.Operations.{Operation}
 use Rattle.queue_tx.specs.Queues.{KeyedAds}
 use Rattle.queue_record.specs.declared.error.RecordError.{RecordError}
 use Rattle.queue_record.specs.declared.error.RecordError.TheVariants.{BadRecord, TooLong, Memory}
-use Rattle.queue_record.specs.Reading.{start, fed}
+use Rattle.queue_record.specs.ReadSoFar.{start, fed}
 use Rattle.queue_record.specs.Logs.{IsAtRest}
 
 -- no line is bad, and the bytes say these transactions

@@ -6,7 +6,7 @@ ghost use Rattle.ad_rows.specs.Rows.{integer_literal};
 ghost use Rattle.queue_tx.specs.declared.key.Key.TheVariants.{Header};
 ghost use Rattle.queue_tx.specs.Operations.{set_attr};
 ghost use Rattle.queue_tx.specs.Queues.{queue_after};
-ghost use Rattle.queue_record.specs.Reading.{start, fed};
+ghost use Rattle.queue_record.specs.ReadSoFar.{start, fed};
 ghost use Rattle.queue_record.specs.Texts.{AreTexts, first_long};
 ghost use Rattle.queue_log.specs.Logged.{IsLogged};
 ghost use Rattle.queue_log.specs.Stands.{IsSettled};

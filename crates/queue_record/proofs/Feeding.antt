@@ -6,9 +6,9 @@ use Rattle.std.proofs.lemmas.Bool.Decides.{nat_tests}
 use Rattle.std.proofs.lemmas.List.{append-nil}
 use Rattle.queue_record.specs.declared.error.RecordError.{RecordError}
 use Rattle.queue_record.specs.declared.error.RecordError.TheVariants.{Memory}
-use Rattle.queue_record.specs.Reading.{Reading, refused, counted, kept_part, kept_all, counted_all, in_line, after_byte, after_line, with_bytes, fed, Gives, HasNoNewline}
+use Rattle.queue_record.specs.ReadSoFar.{ReadSoFar, refused, counted, kept_part, kept_all, counted_all, in_line, after_byte, after_line, with_bytes, fed, Gives, HasNoNewline}
 
-pub fed_append : (r : Reading) (xs ys : List ℕ) → fed r (xs ++ ys) ≡ fed (fed r xs) ys
+pub fed_append : (r : ReadSoFar) (xs ys : List ℕ) → fed r (xs ++ ys) ≡ fed (fed r xs) ys
 fed_append r [] ys = refl
 fed_append r (x ∷ xs) ys = fed_append (after_byte r.refusal r x) xs ys
 
@@ -25,30 +25,30 @@ no_newline b h = by (b == 10) h
     by false h = refl
 
 -- a byte of a line
-byte_in_line : (o : Option RecordError) (r : Reading) (b : ℕ) → o ≡ None → not (b == 10) ≡ true → after_byte o r b ≡ in_line r b
+byte_in_line : (o : Option RecordError) (r : ReadSoFar) (b : ℕ) → o ≡ None → not (b == 10) ≡ true → after_byte o r b ≡ in_line r b
 byte_in_line None r b none h = ap (λ (t : Bool). cond t (after_line r) (in_line r b)) (no_newline b h)
 byte_in_line (Some e) r b none h = absurd cc
 
-newline_ends : (o : Option RecordError) (r : Reading) → o ≡ None → after_byte o r 10 ≡ after_line r
+newline_ends : (o : Option RecordError) (r : ReadSoFar) → o ≡ None → after_byte o r 10 ≡ after_line r
 newline_ends None r none = refl
 newline_ends (Some e) r none = absurd cc
 
-same_open : (r : Reading) → r.refusal ≡ None → r ≡ with_bytes r []
+same_open : (r : ReadSoFar) → r.refusal ≡ None → r ≡ with_bytes r []
 same_open r none = λ i. record { list = r.list; queue = r.queue; opened = r.opened; begun = r.begun; line = r.line; part = r.part; size = r.size; whole = r.whole; sequence = r.sequence; refusal = none i }
 
 -- bytes of one line
-pub fed_bytes : (r : Reading) (xs : List ℕ) → r.refusal ≡ None → HasNoNewline xs → fed r xs ≡ with_bytes r xs
+pub fed_bytes : (r : ReadSoFar) (xs : List ℕ) → r.refusal ≡ None → HasNoNewline xs → fed r xs ≡ with_bytes r xs
 fed_bytes r [] none h = same_open r none
 fed_bytes r (x ∷ xs) none h =
     let both = first_and_rest (not (x == 10)) (list_all (λ b. not (b == 10)) xs) h in
-    ap (λ (s : Reading). fed s xs) (byte_in_line r.refusal r x none both.0) ∙ fed_bytes (in_line r x) xs refl both.1
+    ap (λ (s : ReadSoFar). fed s xs) (byte_in_line r.refusal r x none both.0) ∙ fed_bytes (in_line r x) xs refl both.1
 
 -- bytes of one line and its newline
-pub fed_line : (r : Reading) (xs ys : List ℕ) → r.refusal ≡ None → HasNoNewline xs → fed r (xs ++ 10 ∷ ys) ≡ fed (after_line (with_bytes r xs)) ys
+pub fed_line : (r : ReadSoFar) (xs ys : List ℕ) → r.refusal ≡ None → HasNoNewline xs → fed r (xs ++ 10 ∷ ys) ≡ fed (after_line (with_bytes r xs)) ys
 fed_line r xs ys none h =
     fed_append r xs (10 ∷ ys)
-    ∙ ap (λ (s : Reading). fed s (10 ∷ ys)) (fed_bytes r xs none h)
-    ∙ ap (λ (s : Reading). fed s ys) (newline_ends None (with_bytes r xs) refl)
+    ∙ ap (λ (s : ReadSoFar). fed s (10 ∷ ys)) (fed_bytes r xs none h)
+    ∙ ap (λ (s : ReadSoFar). fed s ys) (newline_ends None (with_bytes r xs) refl)
 
 -- a refusal stays
 pub fed_refused : (e : RecordError) (bs : List ℕ) → fed (refused e) bs ≡ refused e
@@ -89,7 +89,7 @@ counted_is n (b ∷ bs) small =
 -- ---- calls one after the other
 
 -- what is left of the piece comes to what the whole comes to
-pub gives_along : {T : Type 0} (result : Result T RecordError) (new r s : Reading) → Gives result new r → r ≡ s → Gives result new s
+pub gives_along : {T : Type 0} (result : Result T RecordError) (new r s : ReadSoFar) → Gives result new r → r ≡ s → Gives result new s
 gives_along result new r s g e = subst (λ x. Gives result new x) e g
 
 pub kept_if_ok : {T E : Type 0} (r : Result T E) (new old more all : List ℕ) → new ≡ cond (is_ok r) (old ++ more) old → old ++ more ≡ all → OnOk r (new ≡ all)

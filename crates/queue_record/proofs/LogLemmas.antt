@@ -11,7 +11,7 @@ use Rattle.queue_record.specs.declared.error.RecordError.{RecordError}
 use Rattle.queue_record.specs.declared.error.RecordError.TheVariants.{BadRecord, TooLong}
 use Rattle.queue_record.specs.Entries.{Entry, begins, ends, does, stamped, entry_at}
 use Rattle.queue_record.specs.Records.{IsShort, Record}
-use Rattle.queue_record.specs.Reading.{Reading, start, refused, refusal_of, counted, goes_on, stamps, takes_in, after_entry, after_line, kept_all, kept_part, counted_all, with_bytes, fed, HasNoNewline}
+use Rattle.queue_record.specs.ReadSoFar.{ReadSoFar, start, refused, refusal_of, counted, goes_on, stamps, takes_in, after_entry, after_line, kept_all, kept_part, counted_all, with_bytes, fed, HasNoNewline}
 use Rattle.queue_record.specs.Logs.{lines_text, IsEntryLine, AreOperations, AreWhole, nothing, stamp, single, several, AreOpen, StandsFor, IsMisplaced, IsCause, long, no_record, misplaced, alone, together, IsBadLog}
 use Rattle.queue_record.proofs.Feeding.{fed_bytes, fed_line, fed_refused, kept_full, counted_is}
 use Rattle.queue_record.proofs.RecordLemmas.{read_is_record, record_is_read}
@@ -79,7 +79,7 @@ count_more n bs = sym (counted_is (min n TOP) bs (omega arith)) ∙ (let same : 
 
 -- ---- what was read so far
 
-record IsSoFar (ws us : List (List ℕ)) (r : Reading) : Type 0 where
+record IsSoFar (ws us : List (List ℕ)) (r : ReadSoFar) : Type 0 where
   are_whole : AreWhole ws r.list r.sequence
   are_open : AreOpen us r.opened
   applies : QueueOf r.list r.queue
@@ -90,18 +90,18 @@ record IsSoFar (ws us : List (List ℕ)) (r : Reading) : Type 0 where
   sized : r.size ≡ min (length (lines_text ws ++ lines_text us)) TOP
   wholly : r.whole ≡ min (length (lines_text ws)) TOP
 
-record GoesOn (ws us : List (List ℕ)) (line : List ℕ) (s : Reading) : Type 0 where
+record GoesOn (ws us : List (List ℕ)) (line : List ℕ) (s : ReadSoFar) : Type 0 where
   ws' : List (List ℕ)
   us' : List (List ℕ)
   text : lines_text ws' ++ lines_text us' ≡ (lines_text ws ++ lines_text us) ++ (line ++ 10 ∷ [])
   so_far : IsSoFar ws' us' s
 
-record Stops (ws us : List (List ℕ)) (line : List ℕ) (opened : Option (List Operation)) (queue : KeyedAds) (s : Reading) : Type 0 where
+record Stops (ws us : List (List ℕ)) (line : List ℕ) (opened : Option (List Operation)) (queue : KeyedAds) (s : ReadSoFar) : Type 0 where
   error : RecordError
   is : s ≡ refused error
   cause : IsCause line (counted 1 (length ws + length us)) (counted 1 (length ws + 1)) opened queue error
 
-abbrev Outcome : List (List ℕ) → List (List ℕ) → List ℕ → Option (List Operation) → KeyedAds → Reading → Type 0
+abbrev Outcome : List (List ℕ) → List (List ℕ) → List ℕ → Option (List Operation) → KeyedAds → ReadSoFar → Type 0
 Outcome ws us line opened queue s = GoesOn ws us line s ⊎ Stops ws us line opened queue s
 
 -- a line more behind those of an open transaction
@@ -115,9 +115,9 @@ text_end ws us line = append-nil (lines_text (ws ++ (us ++ line ∷ []))) ∙ te
 length_more : (ws us : List (List ℕ)) (line : List ℕ) → length ((lines_text ws ++ lines_text us) ++ (line ++ 10 ∷ [])) ≡ length (lines_text ws ++ lines_text us) + length line + 1
 length_more ws us line = omega (arith, length-append (lines_text ws ++ lines_text us) (line ++ 10 ∷ []), length-append line (10 ∷ []))
 
-module _ (ws us : List (List ℕ)) (r : Reading) (line : List ℕ) (so : IsSoFar ws us r) (one : HasNoNewline line) where
+module _ (ws us : List (List ℕ)) (r : ReadSoFar) (line : List ℕ) (so : IsSoFar ws us r) (one : HasNoNewline line) where
   -- the reading at the end of the line
-  abbrev full : Reading
+  abbrev full : ReadSoFar
   full = with_bytes r line
 
   full_size : full.size ≡ min (length (lines_text ws ++ lines_text us) + length line) TOP
@@ -189,7 +189,7 @@ module _ (ws us : List (List ℕ)) (r : Reading) (line : List ℕ) (so : IsSoFar
       }
 
   -- lines that are whole with this one
-  ends_whole : (txs : List (List Operation)) (q : KeyedAds) (n : ℕ) (s : Reading) → AreWhole (ws ++ (us ++ line ∷ [])) txs n → QueueOf txs q
+  ends_whole : (txs : List (List Operation)) (q : KeyedAds) (n : ℕ) (s : ReadSoFar) → AreWhole (ws ++ (us ++ line ∷ [])) txs n → QueueOf txs q
       → s.list ≡ txs → s.queue ≡ q → s.sequence ≡ n → s.opened ≡ None → s.refusal ≡ None → s.part ≡ [] → s.line ≡ counted r.line 1 → s.size ≡ counted full.size 1 → s.whole ≡ counted full.size 1
       → GoesOn ws us line s
   ends_whole txs q n s whole applies list queue sequence opened good none lined sized wholly =
@@ -283,12 +283,12 @@ cut (b ∷ bs) = by (b == 10) refl (cut bs)
     by false e (inr none) = inr (ap (λ (t : Bool). not t && list_all (λ b. not (b == 10)) bs) e ∙ none)
 
 -- what reading comes to
-record ComesTo (bytes : List ℕ) (s : Reading) : Type 0 where
+record ComesTo (bytes : List ℕ) (s : ReadSoFar) : Type 0 where
   stands : s.refusal ≡ None → StandsFor bytes s.list s.queue s.whole s.sequence
   bad : (e : RecordError) → s.refusal ≡ Some e → IsBadLog bytes e
 
 -- nothing but a rest is left
-finish : (bytes : List ℕ) (ws us : List (List ℕ)) (r : Reading) → IsSoFar ws us r → HasNoNewline bytes → ComesTo ((lines_text ws ++ lines_text us) ++ bytes) (fed r bytes)
+finish : (bytes : List ℕ) (ws us : List (List ℕ)) (r : ReadSoFar) → IsSoFar ws us r → HasNoNewline bytes → ComesTo ((lines_text ws ++ lines_text us) ++ bytes) (fed r bytes)
 finish bytes ws us r so none =
     let w = so.wholly in
     subst (λ s. ComesTo ((lines_text ws ++ lines_text us) ++ bytes) s) (sym (fed_bytes r bytes so.good none)) (record {
@@ -301,8 +301,8 @@ error_or d None = d
 error_or d (Some e) = e
 
 -- a line, and what comes of the bytes after it
-step : (bytes line after : List ℕ) (ws us : List (List ℕ)) (r : Reading) → IsSoFar ws us r → HasNoNewline line → bytes ≡ line ++ 10 ∷ after
-    → ((vs ts : List (List ℕ)) (s : Reading) → IsSoFar vs ts s → ComesTo ((lines_text vs ++ lines_text ts) ++ after) (fed s after))
+step : (bytes line after : List ℕ) (ws us : List (List ℕ)) (r : ReadSoFar) → IsSoFar ws us r → HasNoNewline line → bytes ≡ line ++ 10 ∷ after
+    → ((vs ts : List (List ℕ)) (s : ReadSoFar) → IsSoFar vs ts s → ComesTo ((lines_text vs ++ lines_text ts) ++ after) (fed s after))
     → Outcome ws us line r.opened r.queue (after_line (with_bytes r line))
     → ComesTo ((lines_text ws ++ lines_text us) ++ bytes) (fed r bytes)
 step bytes line after ws us r so one parts rest (inl g) =
@@ -313,7 +313,7 @@ step bytes line after ws us r so one parts rest (inl g) =
     subst (λ s. ComesTo (before ++ bytes) s) (sym (ap (fed r) parts ∙ fed_line r line after so.good one)) (subst (λ t. ComesTo t (fed (after_line (with_bytes r line)) after)) text come)
 step bytes line after ws us r so one parts rest (inr stop) =
     let before = lines_text ws ++ lines_text us in
-    let end : fed r bytes ≡ refused stop.error = ap (fed r) parts ∙ fed_line r line after so.good one ∙ ap (λ (s : Reading). fed s after) stop.is ∙ fed_refused stop.error after in
+    let end : fed r bytes ≡ refused stop.error = ap (fed r) parts ∙ fed_line r line after so.good one ∙ ap (λ (s : ReadSoFar). fed s after) stop.is ∙ fed_refused stop.error after in
     subst (λ s. ComesTo (before ++ bytes) s) (sym end) (record {
       stands = λ good. absurd (cc good);
       bad = λ e h. subst (λ x. IsBadLog (before ++ bytes) x) (ap (error_or stop.error) h) (record {
@@ -334,7 +334,7 @@ step bytes line after ws us r so one parts rest (inr stop) =
       });
     })
 
-choose : (bytes : List ℕ) (ws us : List (List ℕ)) (r : Reading) → IsSoFar ws us r
+choose : (bytes : List ℕ) (ws us : List (List ℕ)) (r : ReadSoFar) → IsSoFar ws us r
     → ((c : Cut bytes) → ComesTo ((lines_text ws ++ lines_text us) ++ bytes) (fed r bytes))
     → Cut bytes ⊎ HasNoNewline bytes → ComesTo ((lines_text ws ++ lines_text us) ++ bytes) (fed r bytes)
 choose bytes ws us r so f (inl c) = f c
@@ -343,7 +343,7 @@ choose bytes ws us r so f (inr none) = finish bytes ws us r so none
 shorter : (bytes : List ℕ) (c : Cut bytes) → length c.after < length bytes
 shorter bytes c = let e = ap length c.parts in omega (arith, e, length-append c.line (10 ∷ c.after))
 
-main : (n : ℕ) (bytes : List ℕ) (ws us : List (List ℕ)) (r : Reading) → length bytes ≤ n → IsSoFar ws us r → ComesTo ((lines_text ws ++ lines_text us) ++ bytes) (fed r bytes)
+main : (n : ℕ) (bytes : List ℕ) (ws us : List (List ℕ)) (r : ReadSoFar) → length bytes ≤ n → IsSoFar ws us r → ComesTo ((lines_text ws ++ lines_text us) ++ bytes) (fed r bytes)
 main zero [] ws us r le so = finish [] ws us r so refl
 main zero (b ∷ bs) ws us r le so = absurd (omega arith)
 main (suc n) bytes ws us r le so =

@@ -8,7 +8,7 @@ use Rattle.std.proofs.lemmas.Fmt.{digits_decimal}
 use Rattle.std.proofs.lemmas.List.Elements.{All-from_get_or}
 use Rattle.std.proofs.lemmas.List.Sums.{list_all-from_AllPass}
 use Rattle.std.proofs.lemmas.Str.Parse.{numerals_by_value, tells_by_index}
-use Rattle.queue_record.specs.Reading.{HasNoNewline}
+use Rattle.queue_record.specs.ReadSoFar.{HasNoNewline}
 
 abbrev pub is_no_newline : ℕ → Bool
 is_no_newline b = not (b == 10)

@@ -39,7 +39,7 @@ use Rattle.queue_tx.specs.Printable.{IsPrintableKey, IsWord, IsPrintableTree, Is
 use Rattle.queue_record.specs.Keys.{key_text, IsKeyWord}
 use Rattle.queue_record.specs.Texts.{op_line, word_text, prints_short, is_long}
 use Rattle.queue_record.specs.Entries.{Entry, does, entry_at}
-use Rattle.queue_record.specs.Reading.{HasNoNewline}
+use Rattle.queue_record.specs.ReadSoFar.{HasNoNewline}
 use Rattle.queue_record.specs.Records.{IsWordBefore, IsNextWord, AreKinds, both, IsSetting, Record, IsShort, may_end_before}
 use Rattle.queue_record.proofs.Newlines.{decimal_line}
 use Rattle.queue_record.proofs.RecordLemmas.{record_is_read}

@@ -11,7 +11,7 @@ use Rattle.queue_tx.specs.Operations.{Operation}
 use Rattle.queue_tx.specs.Printable.{IsPrintable}
 use Rattle.queue_tx.specs.Queues.{KeyedAds, queue_after}
 use Rattle.queue_record.specs.Entries.{Entry, begins, ends, does, entry_at}
-use Rattle.queue_record.specs.Reading.{Reading, refused, counted, goes_on, takes_in, after_entry, after_line, with_bytes, kept_all, fed, HasNoNewline}
+use Rattle.queue_record.specs.ReadSoFar.{ReadSoFar, refused, counted, goes_on, takes_in, after_entry, after_line, with_bytes, kept_all, fed, HasNoNewline}
 use Rattle.queue_record.specs.declared.error.RecordError.TheVariants.{TooLong}
 use Rattle.queue_record.specs.Records.{IsShort, Record}
 use Rattle.queue_record.specs.Texts.{op_line, ops_text, tx_text, is_long, first_long, AreTexts}
@@ -23,7 +23,7 @@ use Rattle.queue_record.proofs.Printed.{printed_line, printed_short, printed_ent
 use Rattle.queue_record.proofs.RecordLemmas.{record_is_read}
 
 -- a line that says this, and its newline
-line_read : (r : Reading) (line more : List ℕ) (e : Entry) → r.refusal ≡ None → r.part ≡ [] → HasNoNewline line → IsShort line → entry_at line ≡ Some e
+line_read : (r : ReadSoFar) (line more : List ℕ) (e : Entry) → r.refusal ≡ None → r.part ≡ [] → HasNoNewline line → IsShort line → entry_at line ≡ Some e
     → fed r (line ++ 10 ∷ more) ≡ fed (after_entry (with_bytes r line) r.opened (Some e)) more
 line_read r line more e good none one short says =
     let full = with_bytes r line in
@@ -31,7 +31,7 @@ line_read r line more e good none one short says =
     let near : ltb 16384 (length line) ≡ false = grind (arith, nat_tests) in
     let fits : ltb 16384 (length full.part) ≡ false = ap (λ (p : List ℕ). ltb 16384 (length p)) part ∙ near in
     fed_line r line more good one
-    ∙ ap (λ (s : Reading). fed s more)
+    ∙ ap (λ (s : ReadSoFar). fed s more)
     (ap (λ (t : Bool). cond t (refused (TooLong r.line)) (after_entry full r.opened (entry_at full.part))) fits
     ∙ ap (λ (p : List ℕ). after_entry full r.opened (entry_at p)) part
     ∙ ap (after_entry full r.opened) says)
@@ -53,7 +53,7 @@ none_long o os h = by (is_long o) refl (first_long os) refl h
     by false e None f h = (e, f)
     by false e (Some k) f h = absurd cc
 
-ended : (r : Reading) (done : List Operation) (q : KeyedAds) → r.refusal ≡ None → r.part ≡ [] → r.opened ≡ Some done → queue_after r.queue done ≡ Ok q → Settles r (fed r (codes "106\n")) done q
+ended : (r : ReadSoFar) (done : List Operation) (q : KeyedAds) → r.refusal ≡ None → r.part ≡ [] → r.opened ≡ Some done → queue_after r.queue done ≡ Ok q → Settles r (fed r (codes "106\n")) done q
 ended r done q good none opened does_it =
     let full = with_bytes r (codes "106") in
     let path : fed r (codes "106\n") ≡ takes_in full done (counted r.begun 1) (Ok q) =
@@ -62,7 +62,7 @@ ended r done q good none opened does_it =
     ∙ ap (takes_in full done (counted r.begun 1)) does_it in
     subst (λ s. Settles r s done q) (sym path) (record { at_rest = record { good = refl; no_part = refl; none_open = refl }; listed = refl; queued = refl; sequenced = refl; sized = refl })
 
-inner : (os done : List Operation) (r : Reading) (q : KeyedAds) → IsPrintable os → first_long os ≡ None → AreTexts os → r.refusal ≡ None → r.part ≡ [] → r.opened ≡ Some done
+inner : (os done : List Operation) (r : ReadSoFar) (q : KeyedAds) → IsPrintable os → first_long os ≡ None → AreTexts os → r.refusal ≡ None → r.part ≡ [] → r.opened ≡ Some done
     → queue_after r.queue (done ++ os) ≡ Ok q → Settles r (fed r (ops_text os ++ codes "106\n")) (done ++ os) q
 inner [] done r q are short texts good none opened does_it =
     subst (λ d. Settles r (fed r (codes "106\n")) d q) (sym (append-nil done)) (ended r done q good none opened (ap (queue_after r.queue) (sym (append-nil done)) ∙ does_it))
@@ -80,7 +80,7 @@ inner (o ∷ os) done r q are short texts good none opened does_it =
     subst (λ s. Settles r s (done ++ o ∷ os) q) (sym path) (subst (λ d. Settles r (fed next rest) d q) assoc
     (record { at_rest = settles.at_rest; listed = settles.listed; queued = settles.queued; sequenced = settles.sequenced; sized = settles.sized }))
 
-pub text_settles : (r : Reading) (os : List Operation) (q : KeyedAds) → IsPrintable os → first_long os ≡ None → AreTexts os → r.refusal ≡ None → r.part ≡ [] → r.opened ≡ None
+pub text_settles : (r : ReadSoFar) (os : List Operation) (q : KeyedAds) → IsPrintable os → first_long os ≡ None → AreTexts os → r.refusal ≡ None → r.part ≡ [] → r.opened ≡ None
     → queue_after r.queue os ≡ Ok q → Settles r (fed r (tx_text os)) os q
 text_settles r os q are short texts good none opened does_it =
     let full = with_bytes r (codes "105") in
@@ -109,12 +109,12 @@ within_or_past n m = by (leb m n) refl
     by true e = inl (leb-true m n e)
     by false e = let far = leb-false m n e in inr (m - (n + 1), omega arith)
 
-part_stays : (r : Reading) (line more : List ℕ) (m : ℕ) → r.refusal ≡ None → HasNoNewline line → m ≤ length line → Stays r (fed r (take m (line ++ more)))
+part_stays : (r : ReadSoFar) (line more : List ℕ) (m : ℕ) → r.refusal ≡ None → HasNoNewline line → m ≤ length line → Stays r (fed r (take m (line ++ more)))
 part_stays r line more m good one le =
     subst (λ s. Stays r s) (sym (fed_bytes r (take m (line ++ more)) good (take_line m line more le one)))
     (record { good = refl; listed = refl; queued = refl; wholly = refl; sequenced = refl })
 
-inner_stays : (os done : List Operation) (r : Reading) (m : ℕ) → IsPrintable os → first_long os ≡ None → AreTexts os → r.refusal ≡ None → r.part ≡ [] → r.opened ≡ Some done
+inner_stays : (os done : List Operation) (r : ReadSoFar) (m : ℕ) → IsPrintable os → first_long os ≡ None → AreTexts os → r.refusal ≡ None → r.part ≡ [] → r.opened ≡ Some done
     → m < length (ops_text os ++ codes "106\n") → Stays r (fed r (take m (ops_text os ++ codes "106\n")))
 inner_stays [] done r m are short texts good none opened less = part_stays r (codes "106") (10 ∷ []) m good refl (omega arith)
 inner_stays (o ∷ os) done r m are short texts good none opened less =
@@ -124,7 +124,7 @@ inner_stays (o ∷ os) done r m are short texts good none opened less =
     fits : (is_long o ≡ false) × (first_long os ≡ None)
     fits = none_long o os short
 
-    next : Reading
+    next : ReadSoFar
     next = goes_on (with_bytes r (op_line o)) (Some (done ++ o ∷ [])) r.begun
 
     by : (m ≤ length (op_line o)) ⊎ ((k : ℕ) × (m ≡ length (op_line o) + 1 + k)) → ((k : ℕ) → k < length (ops_text os ++ codes "106\n") → Stays next (fed next (take k (ops_text os ++ codes "106\n"))))
@@ -143,11 +143,11 @@ inner_stays (o ∷ os) done r m are short texts good none opened less =
         ∙ ap (λ (p : Option (List Operation)). fed (after_entry (with_bytes r (op_line o)) p (Some (does o))) (take k tail)) opened in
         subst (λ s. Stays r s) (sym path) (record { good = stays.good; listed = stays.listed; queued = stays.queued; wholly = stays.wholly; sequenced = stays.sequenced })
 
-pub text_stays : (r : Reading) (os : List Operation) (m : ℕ) → IsPrintable os → first_long os ≡ None → AreTexts os → r.refusal ≡ None → r.part ≡ [] → r.opened ≡ None
+pub text_stays : (r : ReadSoFar) (os : List Operation) (m : ℕ) → IsPrintable os → first_long os ≡ None → AreTexts os → r.refusal ≡ None → r.part ≡ [] → r.opened ≡ None
     → m < length (tx_text os) → Stays r (fed r (take m (tx_text os)))
 text_stays r os m are short texts good none opened less = by (within_or_past 3 m)
   where
-    next : Reading
+    next : ReadSoFar
     next = goes_on (with_bytes r (codes "105")) (Some []) r.line
 
     by : (m ≤ 3) ⊎ ((k : ℕ) × (m ≡ 3 + 1 + k)) → Stays r (fed r (take m (tx_text os)))

@@ -2,7 +2,7 @@ pub mod Words
 pub mod Keys
 pub mod Entries
 pub mod Texts
-pub mod Reading
-pub mod ReadingCode
+pub mod ReadSoFar
+pub mod ReadSoFarCode
 pub mod Records
 pub mod Logs

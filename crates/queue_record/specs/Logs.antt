@@ -8,7 +8,7 @@ use Rattle.queue_record.specs.declared.entry.TheConstants.{MAX_LINE}
 use Rattle.queue_record.specs.declared.error.RecordError.{RecordError}
 use Rattle.queue_record.specs.declared.error.RecordError.TheVariants.{BadRecord, TooLong}
 use Rattle.queue_record.specs.Entries.{Entry, begins, ends, does, stamped}
-use Rattle.queue_record.specs.Reading.{Reading, counted, refusal_of, HasNoNewline}
+use Rattle.queue_record.specs.ReadSoFar.{ReadSoFar, counted, refusal_of, HasNoNewline}
 use Rattle.queue_record.specs.Records.{IsShort, Record}
 
 -- lines, each with its newline
@@ -114,13 +114,13 @@ pub record IsBadLog (bytes : List ℕ) (e : RecordError) : Type 0 where
 -- ---- behind a transaction, and behind a beginning of one
 
 -- whole lines were read, and no transaction is open
-pub record IsAtRest (r : Reading) : Type 0 where
+pub record IsAtRest (r : ReadSoFar) : Type 0 where
   pub good : r.refusal ≡ None
   pub no_part : r.part ≡ []
   pub none_open : r.opened ≡ None
 
 -- the transaction is the last on the list, and nothing is open
-pub record Settles (old new : Reading) (os : List Operation) (q : KeyedAds) : Type 0 where
+pub record Settles (old new : ReadSoFar) (os : List Operation) (q : KeyedAds) : Type 0 where
   pub at_rest : IsAtRest new
   pub listed : new.list ≡ old.list ++ os ∷ []
   pub queued : new.queue ≡ q
@@ -128,7 +128,7 @@ pub record Settles (old new : Reading) (os : List Operation) (q : KeyedAds) : Ty
   pub sized : new.whole ≡ new.size
 
 -- what counts stays the same
-pub record Stays (old new : Reading) : Type 0 where
+pub record Stays (old new : ReadSoFar) : Type 0 where
   pub good : new.refusal ≡ None
   pub listed : new.list ≡ old.list
   pub queued : new.queue ≡ old.queue

@@ -8,7 +8,7 @@ ghost use Rattle.queue_tx.specs.Queues.{KeyedAds, queue_after};
 ghost use Rattle.queue_record.specs.declared.error.RecordError.{RecordError};
 ghost use Rattle.queue_record.specs.Entries.{Entry, does, entry_at};
 ghost use Rattle.queue_record.specs.Records.{IsShort, Record};
-ghost use Rattle.queue_record.specs.Reading.{HasNoNewline, Reading, fed, start};
+ghost use Rattle.queue_record.specs.ReadSoFar.{HasNoNewline, ReadSoFar, fed, start};
 ghost use Rattle.queue_record.specs.Logs.{IsAtRest, IsBadLog, Settles, StandsFor, Stays};
 ghost use Rattle.queue_record.specs.Texts.{AreTexts, first_long, is_long, op_line, tx_text};
 
@@ -28,7 +28,7 @@ pub fn printed_lines_are_read()
 /// The text of a transaction whose parts are printable, behind whole lines, is read as that
 /// transaction.
 pub fn printed_transactions_are_read()
-    ensures { (r : Reading) (os : List Operation) (q : KeyedAds)
+    ensures { (r : ReadSoFar) (os : List Operation) (q : KeyedAds)
         → IsPrintable os → first_long os ≡ None → AreTexts os
         → IsAtRest r → queue_after r.queue os ≡ Ok q
         → Settles r (fed r (tx_text os)) os q }
@@ -36,7 +36,7 @@ pub fn printed_transactions_are_read()
 
 /// Each beginning of that text, whatever a stop leaves of it, changes nothing that counts.
 pub fn torn_transactions_say_nothing()
-    ensures { (r : Reading) (os : List Operation) (count : ℕ)
+    ensures { (r : ReadSoFar) (os : List Operation) (count : ℕ)
         → IsPrintable os → first_long os ≡ None → AreTexts os
         → IsAtRest r → count < length (tx_text os)
         → Stays r (fed r (take count (tx_text os))) }
@@ -44,7 +44,7 @@ pub fn torn_transactions_say_nothing()
 
 /// Bytes that are fed in pieces are read as when they are fed at once.
 pub fn pieces_are_one()
-    ensures { (r : Reading) (piece more : List ℕ)
+    ensures { (r : ReadSoFar) (piece more : List ℕ)
         → fed (fed r piece) more ≡ fed r (piece ++ more) }
 {}
 

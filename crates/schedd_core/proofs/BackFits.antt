@@ -16,7 +16,7 @@ use Rattle.pool_view.proofs.Members.{passes, passing_in}
 use Rattle.queue_tx.specs.declared.key.Key.TheVariants.{Proc}
 use Rattle.queue_tx.specs.Keys.{key_cmp, key_cmp_total, same_key_laws}
 use Rattle.queue_tx.specs.Queues.{KeyedAds, ad_at}
-use Rattle.schedd_plan.specs.Reading.{run_number}
+use Rattle.schedd_plan.specs.JobAttributes.{run_number}
 use Rattle.schedd_table.specs.declared.claims.KeptClaim.{KeptClaim}
 use Rattle.schedd_table.specs.declared.runs.KeptRun.{KeptRun}
 use Rattle.schedd_table.specs.JobPlaces.{is_left}

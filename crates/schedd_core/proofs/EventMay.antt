@@ -28,7 +28,7 @@ use Rattle.schedd_plan.specs.declared.reason.Reason.{Reason}
 use Rattle.schedd_plan.specs.declared.reason.Reason.TheVariants.{ByPolicy}
 use Rattle.schedd_plan.specs.declared.status.JobStatus.{JobStatus}
 use Rattle.schedd_plan.specs.declared.status.JobStatus.TheVariants as status
-use Rattle.schedd_plan.specs.Reading.{lease_until, status_of}
+use Rattle.schedd_plan.specs.JobAttributes.{lease_until, status_of}
 use Rattle.schedd_table.specs.declared.claims.KeptClaim.{KeptClaim}
 use Rattle.schedd_table.specs.declared.claims.Stage.{Stage}
 use Rattle.schedd_table.specs.declared.claims.Stage.TheVariants as stage

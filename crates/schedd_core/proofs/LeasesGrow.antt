@@ -24,7 +24,7 @@ use Rattle.schedd_plan.specs.declared.reason.Reason.TheVariants.{ByCommand, ByPo
 use Rattle.schedd_plan.specs.declared.status.JobStatus.{JobStatus}
 use Rattle.schedd_plan.specs.declared.status.JobStatus.TheVariants as status
 use Rattle.schedd_plan.specs.Plans.{job_of, plan_ops}
-use Rattle.schedd_plan.specs.Reading.{lease_until}
+use Rattle.schedd_plan.specs.JobAttributes.{lease_until}
 use Rattle.schedd_table.specs.declared.claims.KeptClaim.{KeptClaim}
 use Rattle.schedd_table.specs.declared.mail.MailRow.{MailRow}
 use Rattle.schedd_table.specs.declared.mail.MailRow.TheVariants as row

@@ -141,9 +141,9 @@ pub record DueAd (q : KeyedAds) (r : KeptRun) : Type 0 where
   pub ad_is : ad_at (Proc r.job) q ≡ Some ad
 
 pub past_lease : (q : KeyedAds) (r : KeptRun) (set : Settings) (reading : ℕ) (ad : Attributes) → ad_at (Proc r.job) q ≡ Some ad → run_line r q set reading ≡ of_run.Past
-    → is_past (Rattle.schedd_plan.specs.Reading.lease_until ad) reading ≡ true
+    → is_past (Rattle.schedd_plan.specs.JobAttributes.lease_until ad) reading ≡ true
 unfolding run_line
-past_lease q r set reading ad is due = by (is_past (Rattle.schedd_plan.specs.Reading.lease_until ad) reading) (is_quiet r set reading) (sym (ap (λ o. run_line_by o r set reading) is) ∙ due)
+past_lease q r set reading ad is due = by (is_past (Rattle.schedd_plan.specs.JobAttributes.lease_until ad) reading) (is_quiet r set reading) (sym (ap (λ o. run_line_by o r set reading) is) ∙ due)
   where
     by : (past quiet : Bool) → line_of_run past quiet ≡ of_run.Past → past ≡ true
     by true quiet h = refl

@@ -19,7 +19,7 @@ use Rattle.queue_tx.specs.Queues.{KeyedAds, ad_at, queue_after}
 use Rattle.schedd_plan.specs.declared.plan.JobPlan.{JobPlan}
 use Rattle.schedd_plan.specs.declared.plan.JobPlan.TheVariants as plan
 use Rattle.schedd_plan.specs.Plans.{job_of, plan_ops}
-use Rattle.schedd_plan.specs.Reading.{lease_until, status_by, status_of}
+use Rattle.schedd_plan.specs.JobAttributes.{lease_until, status_by, status_of}
 use Rattle.schedd_table.specs.declared.runs.KeptRun.{KeptRun}
 use Rattle.schedd_table.specs.JobPlaces.{is_left}
 use Rattle.schedd_table.specs.KeptRuns.{run_of, is_of_job, place_of_job}

@@ -22,7 +22,7 @@ use Rattle.schedd_plan.specs.declared.plan.JobPlan.TheVariants as plan
 use Rattle.schedd_plan.specs.declared.status.JobStatus.{JobStatus}
 use Rattle.schedd_plan.specs.declared.status.JobStatus.TheVariants as status
 use Rattle.schedd_plan.specs.Plans.{job_of, plan_ops}
-use Rattle.schedd_plan.specs.Reading.{status_by, status_of}
+use Rattle.schedd_plan.specs.JobAttributes.{status_by, status_of}
 use Rattle.schedd_core.specs.JobStates.{ShowsJobs}
 use Rattle.schedd_core.specs.Logging.{after_plan}
 use Rattle.schedd_core.specs.PlanChanges.{change_at, change_by, change_of, idle_change, held_change, complete_change}

@@ -32,7 +32,7 @@ use Rattle.schedd_plan.specs.declared.plan.JobPlan.{JobPlan}
 use Rattle.schedd_plan.specs.declared.plan.JobPlan.TheVariants as plan
 use Rattle.schedd_plan.specs.declared.reason.Reason.{Reason}
 use Rattle.schedd_plan.specs.Plans.{job_of, plan_ops}
-use Rattle.schedd_plan.specs.Reading.{reason_text}
+use Rattle.schedd_plan.specs.JobAttributes.{reason_text}
 use Rattle.schedd_core.specs.DueChecks.{was_checked, IsPassedTo, IsPassed, Passes, with_new}
 use Rattle.schedd_core.specs.Logging.{after_plan, finished, reopened, IsReopened}
 use Rattle.schedd_core.specs.Reopening.{IsReader}

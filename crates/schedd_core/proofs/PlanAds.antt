@@ -16,7 +16,7 @@ use Rattle.queue_tx.specs.declared.kind.JobKind.{JobKind}
 use Rattle.queue_tx.specs.declared.kind.JobKind.TheVariants.{Idle, Held, Under}
 use Rattle.queue_tx.specs.Kinds.{kind_of, kind_by}
 use Rattle.schedd_plan.specs.declared.reason.Reason.{Reason}
-use Rattle.schedd_plan.specs.Reading.{natural, natural_by, lease_until, reason_text}
+use Rattle.schedd_plan.specs.JobAttributes.{natural, natural_by, lease_until, reason_text}
 use Rattle.schedd_core.specs.JobStates.{NamesRun}
 use Rattle.schedd_core.proofs.AdChanges.{set_elsewhere, set_there, removed_elsewhere, removed_there, core_of_set, core_of_without}
 

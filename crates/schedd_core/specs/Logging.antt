@@ -16,7 +16,7 @@ use Rattle.schedd_plan.specs.declared.plan.JobPlan.{JobPlan}
 use Rattle.schedd_plan.specs.declared.plan.JobPlan.TheVariants as plan
 use Rattle.schedd_plan.specs.declared.status.JobStatus.{JobStatus}
 use Rattle.schedd_plan.specs.declared.status.JobStatus.TheVariants as status
-use Rattle.schedd_plan.specs.Reading.{status_of}
+use Rattle.schedd_plan.specs.JobAttributes.{status_of}
 use Rattle.schedd_table.specs.declared.runs.KeptRun.{KeptRun}
 use Rattle.schedd_table.specs.KeptRuns.{run_of, place_of_job}
 use Rattle.schedd_core.specs.Reopening.{IsReader, found_runs, found_claims, still_left, next_after}

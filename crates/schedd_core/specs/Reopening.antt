@@ -15,7 +15,7 @@ use Rattle.queue_tx.specs.Kinds.{kind_of}
 use Rattle.queue_tx.specs.Queues.{KeyedAds, ad_at}
 use Rattle.schedd_plan.specs.declared.plan.JobPlan.{JobPlan}
 use Rattle.schedd_plan.specs.declared.plan.JobPlan.TheVariants as plan
-use Rattle.schedd_plan.specs.Reading.{natural_at, run_number}
+use Rattle.schedd_plan.specs.JobAttributes.{natural_at, run_number}
 use Rattle.schedd_table.specs.declared.claims.KeptClaim.{KeptClaim}
 use Rattle.schedd_table.specs.declared.claims.Stage.TheVariants.{Ready}
 use Rattle.schedd_core.specs.declared.reopened.TheConstants.{LAST_RUN_NUMBER}

@@ -20,7 +20,7 @@ use Rattle.schedd_plan.specs.declared.plan.JobPlan.{JobPlan}
 use Rattle.schedd_plan.specs.declared.plan.JobPlan.TheVariants as plan
 use Rattle.schedd_plan.specs.declared.status.JobStatus.TheVariants as status
 use Rattle.schedd_plan.specs.Plans.{job_of, plan_ops}
-use Rattle.schedd_plan.specs.Reading.{status_of}
+use Rattle.schedd_plan.specs.JobAttributes.{status_of}
 use Rattle.schedd_table.specs.declared.claims.KeptClaim.{KeptClaim}
 use Rattle.schedd_table.specs.declared.runs.KeptRun.{KeptRun}
 use Rattle.schedd_table.specs.JobPlaces.{is_left}

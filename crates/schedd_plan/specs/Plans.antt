@@ -18,7 +18,7 @@ use Rattle.schedd_plan.specs.declared.plan.JobPlan.{JobPlan}
 use Rattle.schedd_plan.specs.declared.plan.JobPlan.TheVariants as plan
 use Rattle.schedd_plan.specs.declared.plan.TheConstants.{HEADER_KIND, HEADER_OTHER}
 use Rattle.schedd_plan.specs.declared.reason.Reason.{Reason}
-use Rattle.schedd_plan.specs.Reading.{reason_text}
+use Rattle.schedd_plan.specs.JobAttributes.{reason_text}
 
 abbrev pub truth_literal : Bool → Tree
 truth_literal b = literal (truth b)

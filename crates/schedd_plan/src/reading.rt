@@ -2,7 +2,7 @@
 
 ghost use Rattle.std.specs.Prelude.{◌≡◌};
 ghost use Rattle.ad_tree.specs.Tree.{tree};
-ghost use Rattle.schedd_plan.specs.Reading.{status_of, reason_of, lease_until, run_number, natural, natural_in, status_in, reason_in, natural_at};
+ghost use Rattle.schedd_plan.specs.JobAttributes.{status_of, reason_of, lease_until, run_number, natural, natural_in, status_in, reason_in, natural_at};
 
 use crate::reason::Reason;
 use crate::status::{JobStatus, status_numbered};

@@ -1,5 +1,5 @@
 ghost use Rattle.std.specs.Prelude.{◌≡◌};
-ghost use Rattle.schedd_plan.specs.Reading.{reason_text, reason_worded};
+ghost use Rattle.schedd_plan.specs.JobAttributes.{reason_text, reason_worded};
 
 /// What the schedd says of a job that a user holds.
 pub const BY_COMMAND: &str = "by command";

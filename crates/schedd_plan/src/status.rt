@@ -1,5 +1,5 @@
 ghost use Rattle.std.specs.Prelude.{◌≡◌};
-ghost use Rattle.schedd_plan.specs.Reading.{status_numbered};
+ghost use Rattle.schedd_plan.specs.JobAttributes.{status_numbered};
 
 /// What a JobStatus says (HTCondor manual, Job ClassAd Attributes, JobStatus).
 #[derive(Clone, Copy, Debug, PartialEq, Eq)]

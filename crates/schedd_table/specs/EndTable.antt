@@ -18,7 +18,7 @@ use Rattle.schedd_plan.specs.declared.reason.Reason.TheVariants.{ByPolicy, Faile
 use Rattle.schedd_plan.specs.declared.status.JobStatus.{JobStatus}
 use Rattle.schedd_plan.specs.declared.status.JobStatus.TheVariants as status
 use Rattle.schedd_plan.specs.Plans.{truth_literal, whole_literal}
-use Rattle.schedd_plan.specs.Reading.{status_of}
+use Rattle.schedd_plan.specs.JobAttributes.{status_of}
 use Rattle.schedd_table.specs.JobPlaces.{let_go_ad}
 
 -- an expression of the job's holds, by its own ad

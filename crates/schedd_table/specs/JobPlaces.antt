@@ -13,7 +13,7 @@ use Rattle.schedd_plan.specs.declared.plan.JobPlan.{JobPlan}
 use Rattle.schedd_plan.specs.declared.plan.JobPlan.TheVariants.{PutIdle, PutHeld, Remove}
 use Rattle.schedd_plan.specs.declared.status.JobStatus.{JobStatus}
 use Rattle.schedd_plan.specs.declared.status.JobStatus.TheVariants as status
-use Rattle.schedd_plan.specs.Reading.{status_of, reason_of}
+use Rattle.schedd_plan.specs.JobAttributes.{status_of, reason_of}
 use Rattle.schedd_table.specs.declared.places.JobPlace.{JobPlace}
 use Rattle.schedd_table.specs.declared.places.JobPlace.TheVariants.{Nowhere, Idle, Held, Left, Under}
 

@@ -9,7 +9,7 @@ use Rattle.pool_mail.specs.declared.settings.Settings.{Settings}
 use Rattle.pool_mail.specs.declared.settings.TheConstants.{MAX_SECONDS}
 use Rattle.queue_tx.specs.declared.key.Key.TheVariants.{Proc}
 use Rattle.queue_tx.specs.Queues.{KeyedAds, ad_at}
-use Rattle.schedd_plan.specs.Reading.{lease_until, natural}
+use Rattle.schedd_plan.specs.JobAttributes.{lease_until, natural}
 use Rattle.schedd_table.specs.declared.claims.KeptClaim.{KeptClaim}
 use Rattle.schedd_table.specs.declared.claims.Stage.{Stage}
 use Rattle.schedd_table.specs.declared.claims.Stage.TheVariants.{Asked, Ready, Leaving}

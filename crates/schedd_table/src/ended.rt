@@ -4,7 +4,7 @@ ghost use Rattle.std.specs.Prelude.{◌≡◌, IfOk};
 ghost use Rattle.ad_tree.specs.Tree.{tree};
 ghost use Rattle.ad_tree.specs.Ad.{with_attribute};
 ghost use Rattle.schedd_plan.specs.Plans.{whole_literal};
-ghost use Rattle.schedd_plan.specs.Reading.{status_of};
+ghost use Rattle.schedd_plan.specs.JobAttributes.{status_of};
 ghost use Rattle.schedd_table.specs.EndTable.{completion_of, ad_after_exit, is_remove_asked, completed_plan, ended_ad_plan, plan_at_end, failed_plan};
 
 use crate::places::let_go_ad;

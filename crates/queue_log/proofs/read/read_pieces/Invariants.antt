@@ -1,7 +1,7 @@
 -- What was read so far is what the first bytes of the file say, which the store still holds.
 use Rattle.std.proofs.Common.{◌≡◌, ◌≤◌, ◌<◌, ◌-◌, ℕ, List, true, None, length, take}
 use Rattle.pool_outer.specs.Files.{bytes_in}
-use Rattle.queue_record.specs.Reading.{start, fed}
+use Rattle.queue_record.specs.ReadSoFar.{start, fed}
 use Rattle.solid_file.specs.Moments.{KeepsFile}
 use Rattle.queue_log.specs.Files.{IsSound}
 use Rattle.queue_log.proofs.read.read_pieces.Given as goal

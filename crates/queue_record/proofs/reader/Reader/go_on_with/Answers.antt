@@ -1,5 +1,5 @@
 use Rattle.std.proofs.Common.{◌≡◌, ap, sym, ◌∙◌, List, ℕ}
-use Rattle.queue_record.specs.Reading.{Reading, fed, after_line, with_bytes}
+use Rattle.queue_record.specs.ReadSoFar.{ReadSoFar, fed, after_line, with_bytes}
 use Rattle.queue_record.proofs.Feeding.{fed_line, fed_bytes, fed_refused, gives_along}
 use Rattle.queue_record.proofs.reader.Reader.go_on_with.Goals as goal
 
@@ -10,7 +10,7 @@ loop-text-preserved c =
     let step = c.in_default-read_line.ensures in
     record {
       good = step.1;
-      rest = ap (λ (r : Reading). fed r c.in-Some.after.now) step.0
+      rest = ap (λ (r : ReadSoFar). fed r c.in-Some.after.now) step.0
           ∙ sym (ap (fed c.loop-text.self) cut.1 ∙ fed_line c.loop-text.self c.in-Some.text.now c.in-Some.after.now i.good cut.0)
           ∙ i.rest;
     }
@@ -24,7 +24,7 @@ returns-in-Err c =
           sym i.rest
           ∙ ap (fed c.loop-text.self) cut.1
           ∙ fed_line c.loop-text.self c.in-Some.text.now c.in-Some.after.now i.good cut.0
-          ∙ ap (λ (r : Reading). fed r c.in-Some.after.now) (c.in-Err.ensures.1 other)
+          ∙ ap (λ (r : ReadSoFar). fed r c.in-Some.after.now) (c.in-Err.ensures.1 other)
           ∙ fed_refused c.in-Err.error c.in-Some.after.now,
     )
 

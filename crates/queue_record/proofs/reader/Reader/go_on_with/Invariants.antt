@@ -1,6 +1,6 @@
 -- What comes of the bytes that are left comes of all.
 use Rattle.std.proofs.Common.{◌≡◌, length, None}
-use Rattle.queue_record.specs.Reading.{fed}
+use Rattle.queue_record.specs.ReadSoFar.{fed}
 use Rattle.queue_record.proofs.reader.Reader.go_on_with.Given as goal
 
 abbrev pub invariant-loop-text : goal.invariant-loop-text

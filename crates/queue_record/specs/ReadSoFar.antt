@@ -12,7 +12,7 @@ use Rattle.queue_record.specs.declared.error.RecordError.TheVariants.{BadRecord,
 use Rattle.queue_record.specs.Entries.{Entry, begins, ends, does, stamped, entry_at}
 
 -- a log that was read so far
-pub record Reading : Type 0 where
+pub record ReadSoFar : Type 0 where
   -- the transactions that have their end, and the queue that they build
   pub list : List (List Operation)
   pub queue : KeyedAds
@@ -28,7 +28,7 @@ pub record Reading : Type 0 where
   pub sequence : ℕ
   pub refusal : Option RecordError
 
-abbrev pub start : Reading
+abbrev pub start : ReadSoFar
 start = record {
   list = [];
   queue = [];
@@ -43,7 +43,7 @@ start = record {
 }
 
 -- nothing of what was read counts any more
-abbrev pub refused : RecordError → Reading
+abbrev pub refused : RecordError → ReadSoFar
 refused e = record {
   list = [];
   queue = [];
@@ -64,7 +64,7 @@ counted n k = min (n + k) (2 ^ 64 - 1)
 -- ---- past the end of a line
 
 -- the next line of a transaction that is open, or of none
-abbrev pub goes_on : Reading → Option (List Operation) → ℕ → Reading
+abbrev pub goes_on : ReadSoFar → Option (List Operation) → ℕ → ReadSoFar
 goes_on r o n = record {
   list = r.list;
   queue = r.queue;
@@ -79,7 +79,7 @@ goes_on r o n = record {
 }
 
 -- behind a single line with the sequence
-abbrev pub stamps : Reading → ℕ → Reading
+abbrev pub stamps : ReadSoFar → ℕ → ReadSoFar
 stamps r n = record {
   list = r.list;
   queue = r.queue;
@@ -101,7 +101,7 @@ refusal_of first (fault.Full n) = BadRecord (counted first n)
 refusal_of first fault.Memory = Memory
 
 -- behind a transaction whose first operation stands on this line
-abbrev pub takes_in : Reading → List Operation → ℕ → Result KeyedAds ApplyError → Reading
+abbrev pub takes_in : ReadSoFar → List Operation → ℕ → Result KeyedAds ApplyError → ReadSoFar
 takes_in r ops first (Err e) = refused (refusal_of first e)
 takes_in r ops first (Ok q) = record {
   list = r.list ++ ops ∷ [];
@@ -117,7 +117,7 @@ takes_in r ops first (Ok q) = record {
 }
 
 -- a line that says this, where a transaction is open or none is
-abbrev pub after_entry : Reading → Option (List Operation) → Option Entry → Reading
+abbrev pub after_entry : ReadSoFar → Option (List Operation) → Option Entry → ReadSoFar
 after_entry r o None = refused (BadRecord r.line)
 after_entry r None (Some begins) = goes_on r (Some []) r.line
 after_entry r (Some ops) (Some begins) = refused (BadRecord r.line)
@@ -130,7 +130,7 @@ after_entry r (Some ops) (Some (does o)) = goes_on r (Some (ops ++ o ∷ [])) r.
 after_entry r None (Some (stamped n)) = stamps r n
 after_entry r (Some ops) (Some (stamped n)) = refused (BadRecord r.line)
 
-abbrev pub after_line : Reading → Reading
+abbrev pub after_line : ReadSoFar → ReadSoFar
 after_line r =
     if nat_lt MAX_LINE (length r.part) then refused (TooLong r.line)
     else after_entry r r.opened (entry_at r.part)
@@ -141,7 +141,7 @@ after_line r =
 abbrev pub kept_part : List ℕ → ℕ → List ℕ
 kept_part part b = if nat_lt MAX_LINE (length part) then part else part ++ b ∷ []
 
-abbrev pub in_line : Reading → ℕ → Reading
+abbrev pub in_line : ReadSoFar → ℕ → ReadSoFar
 in_line r b = record {
   list = r.list;
   queue = r.queue;
@@ -155,11 +155,11 @@ in_line r b = record {
   refusal = None;
 }
 
-abbrev pub after_byte : Option RecordError → Reading → ℕ → Reading
+abbrev pub after_byte : Option RecordError → ReadSoFar → ℕ → ReadSoFar
 after_byte (Some e) r b = r
 after_byte None r b = if b == code "\n" then after_line r else in_line r b
 
-abbrev pub fed : Reading → List ℕ → Reading
+abbrev pub fed : ReadSoFar → List ℕ → ReadSoFar
 fed r [] = r
 fed r (b ∷ bs) = fed (after_byte r.refusal r b) bs
 
@@ -175,7 +175,7 @@ abbrev pub counted_all : ℕ → List ℕ → ℕ
 counted_all n [] = n
 counted_all n (b ∷ bs) = counted_all (counted n 1) bs
 
-abbrev pub with_bytes : Reading → List ℕ → Reading
+abbrev pub with_bytes : ReadSoFar → List ℕ → ReadSoFar
 with_bytes r bs = record {
   list = r.list;
   queue = r.queue;
@@ -192,6 +192,6 @@ with_bytes r bs = record {
 -- ---- what a call gives
 
 -- The reading is this one, or keeps nothing but the refusal; out of memory comes at any place.
-abbrev pub Gives : {T : Type 0} → Result T RecordError → Reading → Reading → Type 0
+abbrev pub Gives : {T : Type 0} → Result T RecordError → ReadSoFar → ReadSoFar → Type 0
 Gives (Ok u) new r = (new ≡ r) × (new.refusal ≡ None)
 Gives (Err e) new r = (new ≡ refused e) × (e ≢ Memory → r ≡ refused e)

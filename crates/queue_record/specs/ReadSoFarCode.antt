@@ -8,7 +8,7 @@ use Rattle.queue_tx.specs.OperationCode.{operations_code}
 use Rattle.queue_tx.specs.Queues.{KeyedAds, queue_code}
 use Rattle.queue_record.specs.declared.error.RecordError.{RecordError}
 use Rattle.queue_record.specs.declared.error.RecordError.TheVariants.{BadRecord, TooLong, Memory}
-use Rattle.queue_record.specs.Reading.{Reading}
+use Rattle.queue_record.specs.ReadSoFar.{ReadSoFar}
 
 abbrev pub ErrorParts : Type 0
 ErrorParts = ℕ ⊎ (ℕ ⊎ Unit {0})
@@ -40,13 +40,13 @@ Read = List (List Operation) × (KeyedAds × Option (List Operation))
 abbrev pub Place : Type 0
 Place = ℕ × (ℕ × (List ℕ × (ℕ × (ℕ × (ℕ × Option RecordError)))))
 
-abbrev pub parts_of_reading : Reading → Read × Place
+abbrev pub parts_of_reading : ReadSoFar → Read × Place
 parts_of_reading r = (
   (r.list, (r.queue, r.opened)),
   (r.begun, (r.line, (r.part, (r.size, (r.whole, (r.sequence, r.refusal)))))),
 )
 
-abbrev pub reading_of_parts : Read × Place → Reading
+abbrev pub reading_of_parts : Read × Place → ReadSoFar
 reading_of_parts p = record {
   list = p.0.0;
   queue = p.0.1.0;
@@ -60,7 +60,7 @@ reading_of_parts p = record {
   refusal = p.1.1.1.1.1.1.1;
 }
 
-pub reading_back : (r : Reading) → reading_of_parts (parts_of_reading r) ≡ r
+pub reading_back : (r : ReadSoFar) → reading_of_parts (parts_of_reading r) ≡ r
 reading_back r = refl
 
 abbrev pub read_code : Coded Read
@@ -71,7 +71,7 @@ place_code =
     coded× coded_ℕ (coded× coded_ℕ (coded× (coded_list coded_ℕ)
     (coded× coded_ℕ (coded× coded_ℕ (coded× coded_ℕ (coded_option error_code))))))
 
-abbrev pub reading_code : Coded Reading
-reading_code =
+abbrev pub read_so_far_code : Coded ReadSoFar
+read_so_far_code =
     code_by (Read × Place) (coded× read_code place_code)
     parts_of_reading reading_of_parts reading_back
