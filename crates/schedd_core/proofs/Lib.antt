@@ -26,3 +26,4 @@ pub mod Passing
 pub mod Oldest
 pub mod DueFirst
 pub mod Marks
+pub mod Crashes

@@ -10,3 +10,4 @@ pub mod PlanChanges
 pub mod ScheddParts
 pub mod Looks
 pub mod DueChecks
+pub mod PreparedSchedds

@@ -69,3 +69,7 @@ waits p v = record { schedd = record v { waiting = Some p }; step = plans p }
 abbrev pub waits_for : Option JobPlan → ScheddValue → After
 waits_for None v = becomes v
 waits_for (Some p) v = waits p v
+
+-- ---- a crash loses the claims
+abbrev pub crashed : ScheddValue → ScheddValue
+crashed v = record v { claims = [] }

@@ -22,6 +22,14 @@ impl Drop for ScheddStep {
 }
 
 impl ScheddStep {
+    /// What is sent, and what is to be logged, without memory. Computes in O(1).
+    pub fn into_parts(self) -> (MailList, Option<JobPlan>)
+        ensures { result ≡ (self.mails, self.plan) }
+    {
+        let ScheddStep { mails, plan } = self;
+        (mails, plan)
+    }
+
     pub(crate) fn nothing(alloc: Global) -> ScheddStep
         ensures { result ≡ nothing_done }
     {

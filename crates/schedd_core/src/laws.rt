@@ -1,6 +1,6 @@
 //! What holds of every schedd over its queue.
 
-ghost use Rattle.std.specs.Prelude.{◌≡◌, ℕ, ◌≤◌, true, false, List, ◌∷◌, Option, Some, None, Ok, IfSome};
+ghost use Rattle.std.specs.Prelude.{◌≡◌, ◌↔◌, ℕ, ◌≤◌, true, false, List, ◌∷◌, Option, Some, None, Ok, IfSome};
 ghost use Rattle.std.specs.Ordering.{is_gt};
 ghost use Rattle.claim_id.specs.declared.numbers.ClaimId.{ClaimId};
 ghost use Rattle.claim_id.specs.declared.numbers.JobId.{JobId};
@@ -29,7 +29,7 @@ ghost use Rattle.schedd_core.specs.PlanChanges.{change_of, moves_of_logged, move
 ghost use Rattle.schedd_core.specs.Reopening.{IsReader};
 ghost use Rattle.schedd_core.specs.Rows.{after_mail};
 ghost use Rattle.schedd_core.specs.ScheddParts.{Fits, FitsOn, IsAllowed, IsFitting, IsHeard, IsLeased, IsOfClaim, IsOrdered, IsPart, LeasesGrow};
-ghost use Rattle.schedd_core.specs.Schedds.{IsOpened, ScheddValue};
+ghost use Rattle.schedd_core.specs.Schedds.{IsOpened, ScheddValue, crashed, engages_job};
 ghost use Rattle.schedd_core.specs.Ticks.{IsTicked};
 
 /// The keys of a queue that transactions build stand in order, and the names of each of its ads
@@ -193,4 +193,15 @@ pub fn the_mark_stands()
     ensures submissions { (q new : KeyedAds) (v : ScheddValue) (first : JobId)
         → ((key : Key) → IsPeriodic new key → is_gt (key_cmp (Proc first) key) ≡ true
         → IsPeriodic q key) → IsPassed q v → IsPassed new (with_new (Proc first) v) }
+{}
+
+/// A crash loses the claims alone: no job is engaged then, the schedd fits its queue and is the
+/// part of the protocol that it was, and it comes back as it would have with its claims.
+pub fn crashes_lose_claims_alone()
+    ensures engaged { (v : ScheddValue) (job : JobId) → engages_job (crashed v) job ≡ false }
+    ensures fits { (q : KeyedAds) (v : ScheddValue) → Fits q v → Fits q (crashed v) }
+    ensures part { (p : Protocol) (q : KeyedAds) (v : ScheddValue) → IsPart p q v
+        → IsPart p q (crashed v) }
+    ensures back { (q : KeyedAds) (v back : ScheddValue) (reading : ℕ)
+        → IsReopened (crashed v) q reading back ↔ IsReopened v q reading back }
 {}

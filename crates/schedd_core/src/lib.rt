@@ -5,11 +5,14 @@
 
 mod answer;
 mod due_checks;
+mod change;
 pub mod laws;
 mod looks;
+mod prepared;
 mod reopened;
 mod schedd;
 mod search;
 
 pub use answer::ScheddStep;
+pub use prepared::PreparedSchedd;
 pub use schedd::Schedd;

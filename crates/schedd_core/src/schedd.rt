@@ -1,19 +1,29 @@
-ghost use Rattle.std.specs.Prelude.{◌≡◌, Some, true, not, IfOk, IfSome, OnErr, slice_get};
+ghost use Rattle.std.specs.Prelude.{◌≡◌, ◌∷◌, [], Some, None, true, not, IfOk, IfSome, OnErr, slice_get};
+ghost use Rattle.pool_mail.specs.declared.mail.Mail.TheVariants as of_mail;
 ghost use Rattle.pool_view.specs.Numbers.{same_job};
 ghost use Rattle.queue_tx.specs.Queues.{ad_at};
 ghost use Rattle.queue_tx.specs.declared.key.Key.TheVariants.{Proc};
 ghost use Rattle.schedd_table.specs.JobPlaces.{job_place};
+ghost use Rattle.schedd_table.specs.KeptClaims.{with_stage};
+ghost use Rattle.schedd_table.specs.KeptRuns.{with_run};
+ghost use Rattle.schedd_core.specs.declared.change.ClaimsChange.TheVariants as of_claims;
+ghost use Rattle.schedd_core.specs.declared.change.LeftChange.TheVariants as of_left;
+ghost use Rattle.schedd_core.specs.declared.change.LooksChange.TheVariants as of_looks;
+ghost use Rattle.schedd_core.specs.declared.change.RunsChange.TheVariants as of_runs;
 ghost use Rattle.schedd_core.specs.Rows.{stage_known, run_known, mail_row, seen_row, gone_row, ended_row, noted, asked_in, after_row, after_mail};
 ghost use Rattle.schedd_core.specs.Ticks.{comes_first, line_of_place, line_of_claims, line_of_claim, tick_line, is_act, is_due, IsSought, IsSoughtBy, IsTicked, left_claims, after_past, later, after_lengthen, after_grant, after_give_up, after_line};
 ghost use Rattle.schedd_core.specs.Checks.{is_unchecked, is_check_due, policy_plan, after_check};
 ghost use Rattle.schedd_core.specs.DueChecks.{IsFirstDue, IsPassed, Passes, with_new};
 ghost use Rattle.schedd_core.specs.Looks.{IsOldest};
 ghost use Rattle.schedd_core.specs.Logging.{run_of_job, stops, is_marked, is_stopped, alives, activates, mails_of_plan, taken_off, after_plan, after_logged, IsReopened};
-ghost use Rattle.schedd_core.specs.Schedds.{nothing_done, plans, IsOpened, engages_job};
+ghost use Rattle.schedd_core.specs.Schedds.{nothing_done, plans, says, crashed, IsOpened, engages_job};
+ghost use Rattle.schedd_core.specs.PreparedSchedds.{CanPut, HasClaimRoom, IsRoomFor, change_after, claims_after, runs_after, schedd_after};
 
 use crate::answer::ScheddStep;
+use crate::change::{ClaimsChange, LeftChange, LooksChange, RunsChange, ScheddChange};
 use crate::due_checks::{first_due, job_of_key, passed_on};
 use crate::looks::Looks;
+use crate::prepared::PreparedSchedd;
 use crate::reopened::{first_run, found_claims, found_runs, next_after, number_after, still_left};
 use crate::search::{first_free, under_jobs};
 use ad_eval::holds;
@@ -271,99 +281,237 @@ impl Schedd {
             ≡ (after_mail self.old queue.now mail.now reading).step) }
         ensures kept { OnErr result (self.new ≡ self.old) }
     {
+        let prepared = self.prepare_receive(alloc, queue, mail, reading)?;
+        Ok(self.commit(prepared))
+    }
+
+    /// `receive` but for its `commit`: takes the memory, and changes nothing.
+    pub fn prepare_receive(
+        &self,
+        alloc: Global,
+        queue: &Queue,
+        mail: &Mail,
+        reading: u64,
+    ) -> Result<PreparedSchedd, Memory>
+        ensures schedd { IfOk result (λ p. schedd_after p self.now
+            ≡ (after_mail self.now queue.now mail.now reading).schedd) }
+        ensures step { IfOk result (λ p. p.step
+            ≡ (after_mail self.now queue.now mail.now reading).step) }
+        ensures room { IfOk result (λ p. HasClaimRoom p self.now) }
+    {
         let row = self.mail_row(alloc, queue, mail, reading)?;
         self.take_row(alloc, queue, row, reading)
     }
 
     #[tactic(auto, unfolding(crate::specs::Rows::after_row))]
     fn take_row(
-        &mut self,
+        &self,
         alloc: Global,
         queue: &Queue,
         row: MailRow,
         reading: u64,
-    ) -> Result<ScheddStep, Memory>
-        ensures schedd { IfOk result (λ _. self.new
-            ≡ (after_row self.old queue.now row reading).schedd) }
-        ensures step { IfOk result (λ step. step
-            ≡ (after_row self.old queue.now row reading).step) }
-        ensures kept { OnErr result (self.new ≡ self.old) }
+    ) -> Result<PreparedSchedd, Memory>
+        ensures schedd { IfOk result (λ p. schedd_after p self.now
+            ≡ (after_row self.now queue.now row reading).schedd) }
+        ensures step { IfOk result (λ p. p.step
+            ≡ (after_row self.now queue.now row reading).step) }
+        ensures room { IfOk result (λ p. HasClaimRoom p self.now) }
     {
         match row {
-            MailRow::Nothing => Ok(ScheddStep::nothing(alloc)),
+            MailRow::Nothing => Ok(self.nothing(alloc)),
             MailRow::Ask {
                 claim,
                 job,
                 by_priority,
             } => self.ask(alloc, queue, claim, job, by_priority, reading),
-            MailRow::Ready { place } => {
-                set_stage(&mut self.claims, place, Stage::Ready);
-                Ok(ScheddStep::nothing(alloc))
-            }
-            MailRow::Release { claim } => ScheddStep::mail(alloc, Mail::Release { claim }),
+            MailRow::Ready { place } => Ok(self.stage(alloc, place, Stage::Ready)),
+            MailRow::Release { claim } => self.release(alloc, ClaimsChange::Same, claim),
             MailRow::Forget { place } => {
-                remove_claim(&mut self.claims, place);
-                Ok(ScheddStep::nothing(alloc))
+                let claims = ClaimsChange::Remove { place };
+                Ok(self.quiet(alloc, claims, RunsChange::Same))
             }
-            MailRow::Leave { place } => {
-                set_stage(&mut self.claims, place, Stage::Leaving);
-                Ok(ScheddStep::nothing(alloc))
-            }
-            MailRow::Note { place } => {
-                self.note(place, reading);
-                Ok(ScheddStep::nothing(alloc))
-            }
+            MailRow::Leave { place } => Ok(self.stage(alloc, place, Stage::Leaving)),
+            MailRow::Note { place } => Ok(self.note(alloc, place, reading)),
             MailRow::Free {
                 place,
                 plan,
                 claim,
                 fate,
             } => {
-                remove_run(&mut self.runs, place);
-                settle_claim(&mut self.claims, claim, fate);
-                Ok(self.wait_for(alloc, plan))
+                let claims = ClaimsChange::Settle { claim, fate };
+                Ok(self.wait_with(alloc, claims, RunsChange::Remove { place }, plan))
             }
             MailRow::Order { plan } => Ok(self.wait_for(alloc, plan)),
         }
     }
 
-    // A plan is to be logged.
-    fn wait_for(&mut self, alloc: Global, plan: JobPlan) -> ScheddStep
-        ensures schedd { self.new ≡ record self.old { waiting = Some plan } }
-        ensures step { result ≡ plans plan }
+    // What becomes of the claims and the runs, and what waits then.
+    fn change(
+        &self,
+        claims: ClaimsChange,
+        runs: RunsChange,
+        waiting: Option<JobPlan>,
+    ) -> ScheddChange
+        ensures { result ≡ record {
+          next_run = self.now.next_run;
+          left = of_left.Same;
+          claims = claims;
+          runs = runs;
+          looks = of_looks.Same;
+          waiting = waiting;
+        } }
     {
-        self.waiting = Some(plan);
-        ScheddStep::plan(alloc, plan)
+        ScheddChange {
+            next_run: self.next_run,
+            left: LeftChange::Same,
+            claims,
+            runs,
+            looks: LooksChange::Same,
+            waiting,
+        }
+    }
+
+    // Nothing happens.
+    fn nothing(&self, alloc: Global) -> PreparedSchedd
+        ensures schedd { schedd_after result self.now ≡ self.now }
+        ensures step { result.step ≡ nothing_done }
+        ensures room { HasClaimRoom result self.now }
+    {
+        self.quiet(alloc, ClaimsChange::Same, RunsChange::Same)
+    }
+
+    // Nothing is sent or logged.
+    fn quiet(&self, alloc: Global, claims: ClaimsChange, runs: RunsChange) -> PreparedSchedd
+        requires { CanPut claims self.now.claims }
+        ensures schedd { schedd_after result self.now ≡ record self.now {
+          claims = claims_after claims self.now.claims;
+          runs = runs_after runs self.now.runs;
+        } }
+        ensures step { result.step ≡ nothing_done }
+        ensures room { HasClaimRoom result self.now }
+    {
+        PreparedSchedd {
+            change: self.change(claims, runs, self.waiting),
+            step: ScheddStep::nothing(alloc),
+        }
+    }
+
+    // A plan is to be logged, and nothing else changes.
+    fn wait_for(&self, alloc: Global, plan: JobPlan) -> PreparedSchedd
+        ensures schedd { schedd_after result self.now ≡ record self.now { waiting = Some plan } }
+        ensures step { result.step ≡ plans plan }
+        ensures room { HasClaimRoom result self.now }
+    {
+        self.wait_with(alloc, ClaimsChange::Same, RunsChange::Same, plan)
+    }
+
+    // A plan is to be logged.
+    fn wait_with(
+        &self,
+        alloc: Global,
+        claims: ClaimsChange,
+        runs: RunsChange,
+        plan: JobPlan,
+    ) -> PreparedSchedd
+        requires { CanPut claims self.now.claims }
+        ensures schedd { schedd_after result self.now ≡ record self.now {
+          claims = claims_after claims self.now.claims;
+          runs = runs_after runs self.now.runs;
+          waiting = Some plan;
+        } }
+        ensures step { result.step ≡ plans plan }
+        ensures room { HasClaimRoom result self.now }
+    {
+        PreparedSchedd {
+            change: self.change(claims, runs, Some(plan)),
+            step: ScheddStep::plan(alloc, plan),
+        }
+    }
+
+    // A mail is sent.
+    fn send(
+        &self,
+        alloc: Global,
+        claims: ClaimsChange,
+        mail: Mail,
+    ) -> Result<PreparedSchedd, Memory>
+        requires { CanPut claims self.now.claims }
+        ensures schedd { IfOk result (λ p. schedd_after p self.now
+            ≡ record self.now { claims = claims_after claims self.now.claims }) }
+        ensures step { IfOk result (λ p. p.step ≡ says (mail ∷ [])) }
+        ensures room { IfOk result (λ p. HasClaimRoom p self.now) }
+    {
+        Ok(PreparedSchedd {
+            step: ScheddStep::mail(alloc, mail)?,
+            change: self.change(claims, RunsChange::Same, self.waiting),
+        })
+    }
+
+    // A claim is given up.
+    fn release(
+        &self,
+        alloc: Global,
+        claims: ClaimsChange,
+        claim: ClaimNo,
+    ) -> Result<PreparedSchedd, Memory>
+        requires { CanPut claims self.now.claims }
+        ensures schedd { IfOk result (λ p. schedd_after p self.now
+            ≡ record self.now { claims = claims_after claims self.now.claims }) }
+        ensures step { IfOk result (λ p. p.step ≡ says (of_mail.Release claim ∷ [])) }
+        ensures room { IfOk result (λ p. HasClaimRoom p self.now) }
+    {
+        self.send(alloc, claims, Mail::Release { claim })
+    }
+
+    // The claim of a place has come so far.
+    fn stage(&self, alloc: Global, place: usize, stage: Stage) -> PreparedSchedd
+        ensures schedd { schedd_after result self.now
+            ≡ record self.now { claims = with_stage place stage self.now.claims } }
+        ensures step { result.step ≡ nothing_done }
+        ensures room { HasClaimRoom result self.now }
+    {
+        self.quiet(
+            alloc,
+            ClaimsChange::Stage { place, stage },
+            RunsChange::Same,
+        )
     }
 
     // A run of a place is alive.
-    fn note(&mut self, place: usize, reading: u64)
-        ensures { self.new ≡ noted place reading self.old }
+    fn note(&self, alloc: Global, place: usize, reading: u64) -> PreparedSchedd
+        ensures schedd { schedd_after result self.now ≡ noted place reading self.now }
+        ensures step { result.step ≡ nothing_done }
+        ensures room { HasClaimRoom result self.now }
     {
-        if let Some(kept) = self.runs.get(place) {
-            let found = kept.found;
-            set_alive(&mut self.runs, place, reading, found);
-        }
+        let Some(kept) = self.runs.get(place) else {
+            return self.nothing(alloc);
+        };
+        let runs = RunsChange::Alive {
+            place,
+            alive: reading,
+            found: kept.found,
+        };
+        self.quiet(alloc, ClaimsChange::Same, runs)
     }
 
     // A claim is asked for.
     fn ask(
-        &mut self,
+        &self,
         alloc: Global,
         queue: &Queue,
         claim: ClaimId,
         job: JobId,
         by_priority: bool,
         reading: u64,
-    ) -> Result<ScheddStep, Memory>
-        ensures schedd { IfOk result (λ _. self.new ≡ (asked_in
-            (ad_at (Proc job) queue.now) self.old claim job by_priority reading).schedd) }
-        ensures step { IfOk result (λ step. step ≡ (asked_in
-            (ad_at (Proc job) queue.now) self.old claim job by_priority reading).step) }
-        ensures kept { OnErr result (self.new ≡ self.old) }
+    ) -> Result<PreparedSchedd, Memory>
+        ensures schedd { IfOk result (λ p. schedd_after p self.now ≡ (asked_in
+            (ad_at (Proc job) queue.now) self.now claim job by_priority reading).schedd) }
+        ensures step { IfOk result (λ p. p.step ≡ (asked_in
+            (ad_at (Proc job) queue.now) self.now claim job by_priority reading).step) }
+        ensures room { IfOk result (λ p. HasClaimRoom p self.now) }
     {
         let Some(ad) = ad_of(queue, job) else {
-            return Ok(ScheddStep::nothing(alloc));
+            return Ok(self.nothing(alloc));
         };
         let asked = Mail::Ask {
             claim,
@@ -371,15 +519,25 @@ impl Schedd {
             ad: request_ad(alloc, ad)?,
             by_priority,
         };
-        let step = ScheddStep::mail(alloc, asked)?;
         let kept = KeptClaim {
             claim,
             job,
             stage: Stage::Asked { at: reading },
             ad: ad.copy(alloc)?,
         };
-        self.claims.push(kept)?;
-        Ok(step)
+        let room = self.claim_room(alloc)?;
+        self.send(alloc, ClaimsChange::Put { claim: kept, room }, asked)
+    }
+
+    // Room for more claims than there are.
+    fn claim_room(&self, alloc: Global) -> Result<Vec<KeptClaim>, Memory>
+        ensures { IfOk result (λ room. IsRoomFor self.now.claims room) }
+    {
+        let count = self.claims.len();
+        let Some(more) = count.checked_add(1) else {
+            return Err(Memory);
+        };
+        Ok(Vec::with_capacity(alloc, more.max(count.saturating_mul(2)))?)
     }
 
     // ---- ticks
@@ -470,10 +628,25 @@ impl Schedd {
         ensures ticked { IfOk result (λ step. IsTicked self.old queue.now reading self.new step) }
         ensures kept { OnErr result (self.new ≡ self.old) }
     {
+        let prepared = self.prepare_tick(alloc, queue, reading)?;
+        Ok(self.commit(prepared))
+    }
+
+    /// `tick` but for its `commit`: takes the memory, and changes nothing.
+    pub fn prepare_tick(
+        &self,
+        alloc: Global,
+        queue: &Queue,
+        reading: u64,
+    ) -> Result<PreparedSchedd, Memory>
+        ensures ticked { IfOk result (λ p. IsTicked self.now queue.now reading
+            (schedd_after p self.now) p.step) }
+        ensures room { IfOk result (λ p. HasClaimRoom p self.now) }
+    {
         let line = self.tick_line(queue, reading);
         let found = self.sought(queue, line);
-        let step = self.take_line(alloc, queue, line, found, reading)?;
-        Ok(step)
+        let prepared = self.take_line(alloc, queue, line, found, reading)?;
+        Ok(prepared)
     }
 
     // The job for a claim that looks for one.
@@ -497,21 +670,21 @@ impl Schedd {
 
     #[tactic(auto, unfolding(crate::specs::Ticks::after_line))]
     fn take_line(
-        &mut self,
+        &self,
         alloc: Global,
         queue: &Queue,
         line: TickLine,
         found: Option<Key>,
         reading: u64,
-    ) -> Result<ScheddStep, Memory>
-        ensures schedd { IfOk result (λ _. self.new
-            ≡ (after_line self.old queue.now line found reading).schedd) }
-        ensures step { IfOk result (λ step. step
-            ≡ (after_line self.old queue.now line found reading).step) }
-        ensures kept { OnErr result (self.new ≡ self.old) }
+    ) -> Result<PreparedSchedd, Memory>
+        ensures schedd { IfOk result (λ p. schedd_after p self.now
+            ≡ (after_line self.now queue.now line found reading).schedd) }
+        ensures step { IfOk result (λ p. p.step
+            ≡ (after_line self.now queue.now line found reading).step) }
+        ensures room { IfOk result (λ p. HasClaimRoom p self.now) }
     {
         match line {
-            TickLine::Nothing => Ok(ScheddStep::nothing(alloc)),
+            TickLine::Nothing => Ok(self.nothing(alloc)),
             TickLine::Left { job } => Ok(self.wait_for(alloc, let_go(queue, job))),
             TickLine::Past { place } => Ok(self.free_past(alloc, queue, place)),
             TickLine::Lengthen { place } => self.lengthen(alloc, queue, place, reading),
@@ -525,77 +698,76 @@ impl Schedd {
     }
 
     // The job of the run of a place is let go, and the claim is leaving.
-    fn free_past(&mut self, alloc: Global, queue: &Queue, place: usize) -> ScheddStep
-        ensures schedd { self.new
-            ≡ (after_past self.old queue.now place (slice_get self.old.runs place)).schedd }
-        ensures step { result
-            ≡ (after_past self.old queue.now place (slice_get self.old.runs place)).step }
+    fn free_past(&self, alloc: Global, queue: &Queue, place: usize) -> PreparedSchedd
+        ensures schedd { schedd_after result self.now
+            ≡ (after_past self.now queue.now place (slice_get self.now.runs place)).schedd }
+        ensures step { result.step
+            ≡ (after_past self.now queue.now place (slice_get self.now.runs place)).step }
+        ensures room { HasClaimRoom result self.now }
     {
         let Some(run) = self.runs.get(place) else {
-            return ScheddStep::nothing(alloc);
+            return self.nothing(alloc);
         };
-        let KeptRun { job, claim, .. } = *run;
-        remove_run(&mut self.runs, place);
-        self.leave_claim(claim.no);
-        self.wait_for(alloc, let_go(queue, job))
-    }
-
-    fn leave_claim(&mut self, claim: ClaimNo)
-        ensures { self.new ≡ record self.old { claims = left_claims claim self.old.claims } }
-    {
-        if let Some(place) = place_of_claim(&self.claims, claim) {
-            set_stage(&mut self.claims, place, Stage::Leaving);
-        }
+        let claims = ClaimsChange::Leave {
+            claim: run.claim.no,
+        };
+        let plan = let_go(queue, run.job);
+        self.wait_with(alloc, claims, RunsChange::Remove { place }, plan)
     }
 
     // The lease of the run of a place goes on.
     fn lengthen(
-        &mut self,
+        &self,
         alloc: Global,
         queue: &Queue,
         place: usize,
         reading: u64,
-    ) -> Result<ScheddStep, Memory>
-        ensures schedd { IfOk result (λ _. self.new ≡ (after_lengthen
-            self.old queue.now place (slice_get self.old.runs place) reading).schedd) }
-        ensures step { IfOk result (λ step. step ≡ (after_lengthen
-            self.old queue.now place (slice_get self.old.runs place) reading).step) }
-        ensures kept { OnErr result (self.new ≡ self.old) }
+    ) -> Result<PreparedSchedd, Memory>
+        ensures schedd { IfOk result (λ p. schedd_after p self.now ≡ (after_lengthen
+            self.now queue.now place (slice_get self.now.runs place) reading).schedd) }
+        ensures step { IfOk result (λ p. p.step ≡ (after_lengthen
+            self.now queue.now place (slice_get self.now.runs place) reading).step) }
+        ensures room { IfOk result (λ p. HasClaimRoom p self.now) }
     {
         let Some(run) = self.runs.get(place) else {
-            return Ok(ScheddStep::nothing(alloc));
+            return Ok(self.nothing(alloc));
         };
         let job = run.job;
         let Some(ad) = ad_of(queue, job) else {
-            return Ok(ScheddStep::nothing(alloc));
+            return Ok(self.nothing(alloc));
         };
         let end = lease_end(alloc, ad, &self.settings, reading)?;
         let until = later(end, lease_until(ad));
-        set_alive(&mut self.runs, place, reading, false);
-        Ok(self.wait_for(alloc, JobPlan::Lengthen { job, until }))
+        let runs = RunsChange::Alive {
+            place,
+            alive: reading,
+            found: false,
+        };
+        let plan = JobPlan::Lengthen { job, until };
+        Ok(self.wait_with(alloc, ClaimsChange::Same, runs, plan))
     }
 
     // The claim of a place gets a job.
     fn grant(
-        &mut self,
+        &self,
         alloc: Global,
         queue: &Queue,
         place: usize,
         job: JobId,
         reading: u64,
-    ) -> Result<ScheddStep, Memory>
-        ensures schedd { IfOk result (λ _. self.new ≡ (after_grant self.old queue.now place
-            (slice_get self.old.claims place) job reading).schedd) }
-        ensures step { IfOk result (λ step. step ≡ (after_grant self.old queue.now place
-            (slice_get self.old.claims place) job reading).step) }
-        ensures kept { OnErr result (self.new ≡ self.old) }
+    ) -> Result<PreparedSchedd, Memory>
+        ensures schedd { IfOk result (λ p. schedd_after p self.now ≡ (after_grant self.now queue.now
+            place (slice_get self.now.claims place) job reading).schedd) }
+        ensures step { IfOk result (λ p. p.step ≡ (after_grant self.now queue.now
+            place (slice_get self.now.claims place) job reading).step) }
+        ensures room { IfOk result (λ p. HasClaimRoom p self.now) }
     {
         let Some(kept) = self.claims.get(place) else {
-            return Ok(ScheddStep::nothing(alloc));
+            return Ok(self.nothing(alloc));
         };
         let claim = kept.claim;
         let Some(ad) = ad_of(queue, job) else {
-            return Ok(ScheddStep::nothing(alloc));
+            return Ok(self.nothing(alloc));
         };
         let until = lease_end(alloc, ad, &self.settings, reading)?;
         let number = self.next_run;
@@ -607,8 +779,7 @@ impl Schedd {
             alive: reading,
             found: false,
         };
-        add_run(&mut self.runs, run)?;
-        set_job(&mut self.claims, place, job);
+        let runs = self.runs_with(alloc, run)?;
         let plan = JobPlan::Grant {
             job,
             claim,
@@ -616,24 +787,31 @@ impl Schedd {
             until,
             header,
         };
-        Ok(self.wait_for(alloc, plan))
+        let claims = ClaimsChange::Job { place, job };
+        Ok(self.wait_with(alloc, claims, RunsChange::All(runs), plan))
+    }
+
+    // The runs with one more.
+    fn runs_with(&self, alloc: Global, run: KeptRun) -> Result<Vec<KeptRun>, Memory>
+        ensures { IfOk result (λ runs. runs.items ≡ with_run run self.now.runs) }
+    {
+        let mut runs = Vec::from_slice(alloc, self.runs.as_slice())?;
+        add_run(&mut runs, run)?;
+        Ok(runs)
     }
 
     // The claim of a place is given up.
-    fn give_up(&mut self, alloc: Global, place: usize) -> Result<ScheddStep, Memory>
-        ensures schedd { IfOk result (λ _. self.new
-            ≡ (after_give_up self.old place (slice_get self.old.claims place)).schedd) }
-        ensures step { IfOk result (λ step. step
-            ≡ (after_give_up self.old place (slice_get self.old.claims place)).step) }
-        ensures kept { OnErr result (self.new ≡ self.old) }
+    fn give_up(&self, alloc: Global, place: usize) -> Result<PreparedSchedd, Memory>
+        ensures schedd { IfOk result (λ p. schedd_after p self.now
+            ≡ (after_give_up self.now place (slice_get self.now.claims place)).schedd) }
+        ensures step { IfOk result (λ p. p.step
+            ≡ (after_give_up self.now place (slice_get self.now.claims place)).step) }
+        ensures room { IfOk result (λ p. HasClaimRoom p self.now) }
     {
         let Some(kept) = self.claims.get(place) else {
-            return Ok(ScheddStep::nothing(alloc));
+            return Ok(self.nothing(alloc));
         };
-        let claim = kept.claim.no;
-        let step = ScheddStep::mail(alloc, Mail::Release { claim })?;
-        remove_claim(&mut self.claims, place);
-        Ok(step)
+        self.release(alloc, ClaimsChange::Remove { place }, kept.claim.no)
     }
 
     // ---- periodic expressions
@@ -754,7 +932,10 @@ impl Schedd {
         let plan = self.policy_plan(alloc, place, job, ad, reading)?;
         self.checked.put(alloc, Key::Proc(job), reading)?;
         match plan {
-            Some(plan) => Ok(self.wait_for(alloc, plan)),
+            Some(plan) => {
+                self.waiting = Some(plan);
+                Ok(ScheddStep::plan(alloc, plan))
+            }
             None => Ok(ScheddStep::nothing(alloc)),
         }
     }
@@ -771,40 +952,49 @@ impl Schedd {
             ≡ (after_logged self.old queue.now self.old.waiting).step) }
         ensures kept { OnErr result (self.new ≡ self.old) }
     {
+        let prepared = self.prepare_logged(alloc, queue)?;
+        Ok(self.commit(prepared))
+    }
+
+    /// `logged` but for its `commit`: takes the memory, and changes nothing.
+    pub fn prepare_logged(&self, alloc: Global, queue: &Queue) -> Result<PreparedSchedd, Memory>
+        ensures schedd { IfOk result (λ p. schedd_after p self.now
+            ≡ (after_logged self.now queue.now self.now.waiting).schedd) }
+        ensures step { IfOk result (λ p. p.step
+            ≡ (after_logged self.now queue.now self.now.waiting).step) }
+        ensures room { IfOk result (λ p. HasClaimRoom p self.now) }
+    {
         let Some(plan) = self.waiting else {
-            return Ok(ScheddStep::nothing(alloc));
+            return Ok(self.nothing(alloc));
         };
         let mails = self.mails_of(alloc, queue, plan)?;
-        self.settle(plan)?;
-        Ok(ScheddStep { mails, plan: None })
+        let change = self.settle(plan)?;
+        let step = ScheddStep { mails, plan: None };
+        Ok(PreparedSchedd { change, step })
     }
 
     // What a plan that was logged changes.
     #[tactic(auto, unfolding(crate::specs::Logging::after_plan))]
-    fn settle(&mut self, plan: JobPlan) -> Result<(), Memory>
-        ensures settled { IfOk result (λ _. self.new ≡ after_plan plan self.old) }
-        ensures kept { OnErr result (self.new ≡ self.old) }
+    fn settle(&self, plan: JobPlan) -> Result<ScheddChange, Memory>
+        ensures settled { IfOk result
+            (λ change. change_after change self.now ≡ after_plan plan self.now) }
+        ensures room { IfOk result (λ change. CanPut change.claims self.now.claims) }
     {
         match plan {
             JobPlan::Grant { number, .. } => {
-                self.next_run = number_after(number)?;
+                let next_run = number_after(number)?;
+                Ok(logged_change(next_run, LeftChange::Same, LooksChange::Same))
             }
-            JobPlan::PutIdle { job } | JobPlan::PutHeld { job, .. } => self.take_off(job),
+            JobPlan::PutIdle { job } | JobPlan::PutHeld { job, .. } => {
+                let left = LeftChange::TakeOff(job);
+                Ok(logged_change(self.next_run, left, LooksChange::Same))
+            }
             JobPlan::Complete { job, .. } | JobPlan::Remove { job } => {
-                self.take_off(job);
-                self.checked.remove(&Key::Proc(job));
+                let left = LeftChange::TakeOff(job);
+                Ok(logged_change(self.next_run, left, LooksChange::Forget(job)))
             }
-            _ => {}
+            _ => Ok(logged_change(self.next_run, LeftChange::Same, LooksChange::Same)),
         }
-        self.waiting = None;
-        Ok(())
-    }
-
-    // A job is no longer one that was left.
-    fn take_off(&mut self, job: JobId)
-        ensures { self.new ≡ record self.old { left = taken_off job self.old.left } }
-    {
-        take_off(&mut self.left, job);
     }
 
     // What is sent once a plan is logged.
@@ -877,11 +1067,18 @@ impl Schedd {
 
     // ---- crashes
 
+    /// The schedd crashes: its claims are lost, and no job is engaged. What else it keeps is for
+    /// `reopen`. Computes in O(claims), without memory.
+    pub fn crash(&mut self)
+        ensures { self.new ≡ crashed self.old }
+    {
+        self.claims.clear();
+    }
+
     /// The schedd comes back after a crash, with the queue as logged: what waited is in it, or is
     /// lost. Of what it knew it has the jobs that an earlier boot left, and the next run's number.
     /// After an error the schedd is as it was. Computes in O(jobs under a claim times log jobs, and
     /// times jobs left).
-    #[tactic(auto, unfolding(crate::specs::Logging::reopened))]
     pub fn reopen(
         &mut self,
         alloc: Global,
@@ -892,19 +1089,88 @@ impl Schedd {
         ensures step { IfOk result (λ step. step ≡ nothing_done) }
         ensures kept { OnErr result (self.new ≡ self.old) }
     {
+        let prepared = self.prepare_reopen(alloc, queue, reading)?;
+        Ok(self.commit(prepared))
+    }
+
+    /// `reopen` but for its `commit`: takes the memory, and changes nothing.
+    #[tactic(auto, unfolding(crate::specs::Logging::reopened))]
+    pub fn prepare_reopen(
+        &self,
+        alloc: Global,
+        queue: &Queue,
+        reading: u64,
+    ) -> Result<PreparedSchedd, Memory>
+        ensures schedd { IfOk result (λ p. IsReopened self.now queue.now reading
+            (schedd_after p self.now)) }
+        ensures step { IfOk result (λ p. p.step ≡ nothing_done) }
+        ensures room { IfOk result (λ p. HasClaimRoom p self.now) }
+    {
         let next_run = next_after(queue, self.waiting, self.next_run)?;
         let jobs = under_jobs(alloc, queue)?;
         let left = still_left(alloc, queue, &self.left)?;
         let runs = found_runs(alloc, queue, &jobs, &left, reading)?;
         let claims = found_claims(alloc, queue, &runs)?;
+        Ok(PreparedSchedd {
+            change: ScheddChange {
+                next_run,
+                left: LeftChange::All(left),
+                claims: ClaimsChange::All(claims),
+                runs: RunsChange::All(runs),
+                looks: LooksChange::Clear,
+                waiting: None,
+            },
+            step: ScheddStep::nothing(alloc),
+        })
+    }
+
+    // ---- what was prepared
+
+    /// What was prepared happens, without memory, which can't fail; what is sent, and is to be
+    /// logged. Computes in O(claims + runs + jobs left + log jobs).
+    pub fn commit(&mut self, prepared: PreparedSchedd) -> ScheddStep
+        requires { HasClaimRoom prepared self.old }
+        ensures schedd { self.new ≡ schedd_after prepared self.old }
+        ensures step { result ≡ prepared.step }
+    {
+        let (change, step) = prepared.into_parts();
+        let ScheddChange {
+            next_run,
+            left,
+            claims,
+            runs,
+            looks,
+            waiting,
+        } = change;
         self.next_run = next_run;
-        self.left = left;
-        self.claims = claims;
-        self.runs = runs;
-        self.checked = Looks::new();
-        self.passed = None;
-        self.waiting = None;
-        Ok(ScheddStep::nothing(alloc))
+        left.commit(&mut self.left);
+        claims.commit(&mut self.claims);
+        runs.commit(&mut self.runs);
+        self.passed = looks.mark(self.passed);
+        looks.commit(&mut self.checked);
+        self.waiting = waiting;
+        step
+    }
+}
+
+// What waited is logged, and nothing waits.
+fn logged_change(next_run: u64, left: LeftChange, looks: LooksChange) -> ScheddChange
+    ensures { result ≡ record {
+      next_run = next_run;
+      left = left;
+      claims = of_claims.Same;
+      runs = of_runs.Same;
+      looks = looks;
+      waiting = None;
+    } }
+{
+    ScheddChange {
+        next_run,
+        left,
+        claims: ClaimsChange::Same,
+        runs: RunsChange::Same,
+        looks,
+        waiting: None,
     }
 }
 
@@ -976,7 +1242,7 @@ fn is_other(other: JobId, job: JobId) -> bool
     other != job
 }
 
-fn take_off(left: &mut Vec<JobId>, job: JobId)
+pub(crate) fn take_off(left: &mut Vec<JobId>, job: JobId)
     ensures { left.new.items ≡ taken_off job left.old.items }
 {
     left.retain(|other| is_other(*other, job));
