@@ -7,3 +7,4 @@ pub mod Startds
 pub mod DueTicks
 pub mod OverHere
 pub mod Permits
+pub mod PreparedStartds

@@ -69,6 +69,31 @@ pub struct StartdStep {
     pub answer: StartdAnswer,
 }
 
+impl StartdStep {
+    /// What is sent and what is to be done, without memory. Computes in O(1).
+    pub fn into_parts(self) -> (MailList, StartdAnswer)
+        ensures { result ≡ (self.mails, self.answer) }
+    {
+        let StartdStep { mails, answer } = self;
+        (mails, answer)
+    }
+
+    // Of an event that doesn't happen.
+    pub(crate) fn give_up(self) {
+        let StartdStep {
+            mails: _mails,
+            answer,
+        } = self;
+        match answer {
+            StartdAnswer::Done => {}
+            StartdAnswer::Launch { permit } => {
+                let _run = permit.spend();
+            }
+            StartdAnswer::Kill { runs: _runs } => {}
+        }
+    }
+}
+
 /// Nothing is sent or done.
 pub(crate) fn nothing_done(alloc: Global) -> StartdStep
     ensures { result ≡ nothing_done }

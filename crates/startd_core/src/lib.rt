@@ -7,6 +7,7 @@ mod conclude;
 mod due;
 pub mod laws;
 mod offers;
+mod prepared;
 mod secret;
 mod startd;
 mod tick;
@@ -14,6 +15,7 @@ mod ticks;
 
 pub use answer::{Permit, RunList, StartdAnswer, StartdStep};
 pub use due::is_tick_tried;
+pub use prepared::PreparedStartd;
 pub use secret::secret_of;
 pub use startd::Startd;
 pub use startd_slot::{Held, Mark, Rival, Running, Slot, SlotState};

@@ -3,6 +3,7 @@ ghost use Rattle.std.specs.Option.{option_copied};
 ghost use Rattle.startd_slot.specs.declared.slot.Slot.{Slot};
 ghost use Rattle.startd_core.specs.DueTicks.{is_due, hangs_on_start};
 ghost use Rattle.startd_core.specs.Offers.{has_entered};
+ghost use Rattle.startd_core.specs.PreparedStartds.{startd_after};
 ghost use Rattle.startd_core.specs.Sound.{IsSound};
 ghost use Rattle.startd_core.specs.Startds.{with_slot, place_of, slot_of, after_mail, stranger_step, received_at, after_end, ended_at, put_at, judges, after_tick, after_reboot};
 
@@ -10,6 +11,7 @@ use crate::answer::{StartdAnswer, StartdStep, kill_answer, nothing_done};
 use crate::conclude::{Conclusion, Made, has_entered, made_by};
 use crate::due::is_any_due;
 use crate::offers::Machine;
+use crate::prepared::{PreparedStartd, SlotsChange, StartdChange};
 use crate::ticks::{Ticks, boot_slots, tick_slots};
 use ad_eval::Judged;
 use ad_tree::Ad;
@@ -160,13 +162,6 @@ impl Startd {
         self.slots.get(place)
     }
 
-    fn slot_at(&self, place: usize) -> Option<&Slot>
-        ensures value { option_copied result ≡ slice_get self.now.slots place }
-        ensures within { OnSome result (place < length self.now.slots) }
-    {
-        self.slots.get(place)
-    }
-
     /// The slot with whose ad the mail is judged at a reading; none where it isn't judged. Computes
     /// in O(1), without memory.
     pub fn judges(&self, mail: &Mail, reading: u64) -> Option<SlotId>
@@ -174,6 +169,36 @@ impl Startd {
     {
         let slot = self.slot_of(claim_of(mail)?.slot)?;
         is_judged(self.machine.boot, slot, mail, reading).then_some(slot.id)
+    }
+
+    // What becomes of the slots, where a slot may have entered Owner, Retiring or Vacating.
+    fn change(&self, slots: SlotsChange, offers: u64, restless: bool) -> StartdChange
+        ensures { result ≡ record {
+          boot = self.now.machine.boot;
+          offers = offers;
+          slots = slots;
+          ticked = self.now.ticked;
+          restless = restless;
+        } }
+    {
+        StartdChange {
+            boot: self.machine.boot,
+            offers,
+            slots,
+            ticked: self.ticked,
+            restless,
+        }
+    }
+
+    // The startd stays as it is.
+    fn prepare_step(&self, step: StartdStep) -> PreparedStartd
+        ensures startd { startd_after result self.now ≡ self.now }
+        ensures step { result.step ≡ step }
+    {
+        PreparedStartd {
+            change: self.change(SlotsChange::Same, self.offers, self.restless),
+            step,
+        }
     }
 
     /// A mail is received. `judged` is what `judge` gives of the mail's ad and the ad of the slot
@@ -193,43 +218,80 @@ impl Startd {
             ≡ (after_mail self.old mail.now judged reading).step) }
         ensures kept { OnErr result (self.new ≡ self.old) }
     {
+        let prepared = self.prepare_receive(alloc, mail, judged, reading)?;
+        Ok(self.commit(prepared))
+    }
+
+    /// `receive` but for its `commit`: takes the memory, and changes nothing.
+    pub fn prepare_receive(
+        &self,
+        alloc: Global,
+        mail: &Mail,
+        judged: Option<Judged>,
+        reading: u64,
+    ) -> Result<PreparedStartd, Memory>
+        ensures startd { IfOk result (λ p. startd_after p self.now
+            ≡ (after_mail self.now mail.now judged reading).startd) }
+        ensures step { IfOk result (λ p. p.step
+            ≡ (after_mail self.now mail.now judged reading).step) }
+        ensures sound { IfOk result (λ p. IsSound (startd_after p self.now)) }
+    {
+        self.soundness();
+        let prepared = self.take_mail(alloc, mail, judged, reading)?;
+        Ok(prepared)
+    }
+
+    fn take_mail(
+        &self,
+        alloc: Global,
+        mail: &Mail,
+        judged: Option<Judged>,
+        reading: u64,
+    ) -> Result<PreparedStartd, Memory>
+        ensures startd { IfOk result (λ p. startd_after p self.now
+            ≡ (after_mail self.now mail.now judged reading).startd) }
+        ensures step { IfOk result (λ p. p.step
+            ≡ (after_mail self.now mail.now judged reading).step) }
+    {
         let Some(claim) = claim_of(mail) else {
-            return Ok(nothing_done(alloc));
+            return Ok(self.prepare_step(nothing_done(alloc)));
         };
         match self.place_of(claim.slot) {
-            Some(place) => self.receive_at(alloc, place, mail, judged, reading),
-            None => answer_stranger(alloc, self.machine, mail, reading),
+            Some(place) => self.take_mail_at(alloc, place, mail, judged, reading),
+            None => {
+                let step = answer_stranger(alloc, self.machine, mail, reading)?;
+                Ok(self.prepare_step(step))
+            }
         }
     }
 
-    fn receive_at(
-        &mut self,
+    fn take_mail_at(
+        &self,
         alloc: Global,
         place: usize,
         mail: &Mail,
         judged: Option<Judged>,
         reading: u64,
-    ) -> Result<StartdStep, Memory>
-        ensures startd { IfOk result (λ _. self.new ≡ (received_at self.old place
-            (slice_get self.old.slots place) mail.now judged reading).startd) }
-        ensures step { IfOk result (λ step. step ≡ (received_at self.old place
-            (slice_get self.old.slots place) mail.now judged reading).step) }
-        ensures kept { OnErr result (self.new ≡ self.old) }
+    ) -> Result<PreparedStartd, Memory>
+        ensures startd { IfOk result (λ p. startd_after p self.now ≡ (received_at self.now place
+            (slice_get self.now.slots place) mail.now judged reading).startd) }
+        ensures step { IfOk result (λ p. p.step ≡ (received_at self.now place
+            (slice_get self.now.slots place) mail.now judged reading).step) }
     {
-        let Some(slot) = self.slot_at(place) else {
-            return Ok(nothing_done(alloc));
+        let Some(slot) = self.slots.get(place) else {
+            return Ok(self.prepare_step(nothing_done(alloc)));
         };
         let reaction = react(alloc, self.machine.boot, slot, mail, judged, reading)?;
         let made = made_by(alloc, self.machine, self.offers, slot, reaction, reading)?;
-        Ok(self.put_made(place, made))
+        Ok(self.put_made(place, slot, made))
     }
 
-    // The slot of a place becomes what was made of it.
-    fn put_made(&mut self, place: usize, made: Made) -> StartdStep
-        requires within { place < length self.old.slots }
-        requires sound { IsSound (put_at self.old place made.conclusion) }
-        ensures startd { self.new ≡ put_at self.old place made.conclusion }
-        ensures step { result
+    // The slot of a place is to become what was made of it.
+    #[tactic(auto, unfolding(crate::specs::Startds::put_at))]
+    fn put_made(&self, place: usize, slot: &Slot, made: Made) -> PreparedStartd
+        requires { slice_get self.now.slots place ≡ Some slot.now }
+        ensures startd { startd_after result self.now ≡ put_at self.now place made.conclusion }
+        ensures step { result.step
             ≡ record { mails = made.conclusion.mails; answer = made.answer } }
     {
         let Made { conclusion, answer } = made;
@@ -238,10 +300,11 @@ impl Startd {
             offers,
             mails,
         } = conclusion;
-        let restless = put_state(&mut self.slots, place, state, self.restless);
-        self.offers = offers;
-        self.restless = restless;
-        StartdStep { mails, answer }
+        let restless = self.restless || has_entered(&slot.state, &state);
+        PreparedStartd {
+            change: self.change(SlotsChange::Slot { place, state }, offers, restless),
+            step: StartdStep { mails, answer },
+        }
     }
 
     /// A run's program has ended. Memory too where a count of 64 bits is at its end. After an error
@@ -257,34 +320,64 @@ impl Startd {
         ensures step { IfOk result (λ step. step ≡ (after_end self.old ending.now reading).step) }
         ensures kept { OnErr result (self.new ≡ self.old) }
     {
+        let prepared = self.prepare_ended(alloc, ending, reading)?;
+        Ok(self.commit(prepared))
+    }
+
+    /// `ended` but for its `commit`: takes the memory, and changes nothing.
+    pub fn prepare_ended(
+        &self,
+        alloc: Global,
+        ending: &Ending,
+        reading: u64,
+    ) -> Result<PreparedStartd, Memory>
+        ensures startd { IfOk result (λ p. startd_after p self.now
+            ≡ (after_end self.now ending.now reading).startd) }
+        ensures step { IfOk result (λ p. p.step ≡ (after_end self.now ending.now reading).step) }
+        ensures sound { IfOk result (λ p. IsSound (startd_after p self.now)) }
+    {
+        self.soundness();
+        let prepared = self.take_end(alloc, ending, reading)?;
+        Ok(prepared)
+    }
+
+    fn take_end(
+        &self,
+        alloc: Global,
+        ending: &Ending,
+        reading: u64,
+    ) -> Result<PreparedStartd, Memory>
+        ensures startd { IfOk result (λ p. startd_after p self.now
+            ≡ (after_end self.now ending.now reading).startd) }
+        ensures step { IfOk result (λ p. p.step ≡ (after_end self.now ending.now reading).step) }
+    {
         match self.place_of(ending.run.claim.slot) {
-            Some(place) => self.end_at(alloc, place, ending, reading),
-            None => Ok(nothing_done(alloc)),
+            Some(place) => self.take_end_at(alloc, place, ending, reading),
+            None => Ok(self.prepare_step(nothing_done(alloc))),
         }
     }
 
-    fn end_at(
-        &mut self,
+    fn take_end_at(
+        &self,
         alloc: Global,
         place: usize,
         ending: &Ending,
         reading: u64,
-    ) -> Result<StartdStep, Memory>
-        ensures startd { IfOk result (λ _. self.new ≡ (ended_at self.old place
-            (slice_get self.old.slots place) ending.now reading).startd) }
-        ensures step { IfOk result (λ step. step ≡ (ended_at self.old place
-            (slice_get self.old.slots place) ending.now reading).step) }
-        ensures kept { OnErr result (self.new ≡ self.old) }
+    ) -> Result<PreparedStartd, Memory>
+        ensures startd { IfOk result (λ p. startd_after p self.now ≡ (ended_at self.now place
+            (slice_get self.now.slots place) ending.now reading).startd) }
+        ensures step { IfOk result (λ p. p.step ≡ (ended_at self.now place
+            (slice_get self.now.slots place) ending.now reading).step) }
     {
-        let Some(slot) = self.slot_at(place) else {
-            return Ok(nothing_done(alloc));
+        let Some(slot) = self.slots.get(place) else {
+            return Ok(self.prepare_step(nothing_done(alloc)));
         };
         if !slot.state.runs(ending.run) {
-            return Ok(nothing_done(alloc));
+            return Ok(self.prepare_step(nothing_done(alloc)));
         }
         let reaction = react_to_end(alloc, &slot.state, ending, reading)?;
         let made = made_by(alloc, self.machine, self.offers, slot, reaction, reading)?;
-        Ok(self.put_made(place, made))
+        Ok(self.put_made(place, slot, made))
     }
 
     /// Whether a tick is due at a reading: at the first turn after a boot; where a slot entered
@@ -316,6 +409,27 @@ impl Startd {
         ensures step { IfOk result (λ step. step ≡ (after_tick self.old reading).step) }
         ensures kept { OnErr result (self.new ≡ self.old) }
     {
+        let prepared = self.prepare_tick(alloc, reading)?;
+        Ok(self.commit(prepared))
+    }
+
+    /// `tick` but for its `commit`: takes the memory, and changes nothing.
+    pub fn prepare_tick(&self, alloc: Global, reading: u64) -> Result<PreparedStartd, Memory>
+        ensures startd { IfOk result (λ p. startd_after p self.now
+            ≡ (after_tick self.now reading).startd) }
+        ensures step { IfOk result (λ p. p.step ≡ (after_tick self.now reading).step) }
+        ensures sound { IfOk result (λ p. IsSound (startd_after p self.now)) }
+    {
+        self.soundness();
+        let prepared = self.take_tick(alloc, reading)?;
+        Ok(prepared)
+    }
+
+    fn take_tick(&self, alloc: Global, reading: u64) -> Result<PreparedStartd, Memory>
+        ensures startd { IfOk result (λ p. startd_after p self.now
+            ≡ (after_tick self.now reading).startd) }
+        ensures step { IfOk result (λ p. p.step ≡ (after_tick self.now reading).step) }
+    {
         let Ticks {
             slots,
             offers,
@@ -330,12 +444,18 @@ impl Startd {
             reading,
             self.offers,
         )?;
-        self.slots = slots.into_vec();
-        self.offers = offers;
-        self.restless = restless;
-        self.ticked = Some(reading);
+        let change = StartdChange {
+            boot: self.machine.boot,
+            offers,
+            slots: SlotsChange::All(slots.into_vec()),
+            ticked: Some(reading),
+            restless,
+        };
         let answer = kill_answer(killed);
-        Ok(StartdStep { mails, answer })
+        Ok(PreparedStartd {
+            change,
+            step: StartdStep { mails, answer },
+        })
     }
 
     /// The machine boots anew: no slot has a claim. Memory too where the boot is the last number of
@@ -345,33 +465,67 @@ impl Startd {
         ensures step { IfOk result (λ step. step ≡ (after_reboot self.old reading).step) }
         ensures kept { OnErr result (self.new ≡ self.old) }
     {
+        let prepared = self.prepare_reboot(alloc, reading)?;
+        Ok(self.commit(prepared))
+    }
+
+    /// `reboot` but for its `commit`: takes the memory, and changes nothing.
+    pub fn prepare_reboot(&self, alloc: Global, reading: u64) -> Result<PreparedStartd, Memory>
+        ensures startd { IfOk result (λ p. startd_after p self.now
+            ≡ (after_reboot self.now reading).startd) }
+        ensures step { IfOk result (λ p. p.step ≡ (after_reboot self.now reading).step) }
+        ensures sound { IfOk result (λ p. IsSound (startd_after p self.now)) }
+    {
+        self.soundness();
+        let prepared = self.take_boot(alloc, reading)?;
+        Ok(prepared)
+    }
+
+    fn take_boot(&self, alloc: Global, reading: u64) -> Result<PreparedStartd, Memory>
+        ensures startd { IfOk result (λ p. startd_after p self.now
+            ≡ (after_reboot self.now reading).startd) }
+        ensures step { IfOk result (λ p. p.step ≡ (after_reboot self.now reading).step) }
+    {
         let Some(boot) = self.machine.boot.checked_add(1) else {
             return Err(Memory);
         };
         let Ticks { slots, mails, .. } = boot_slots(alloc, &self.slots, reading, self.offers)?;
-        self.slots = slots.into_vec();
-        self.machine.boot = boot;
-        self.ticked = None;
-        self.restless = false;
-        Ok(StartdStep {
-            mails,
-            answer: StartdAnswer::Done,
+        let change = StartdChange {
+            boot,
+            offers: self.offers,
+            slots: SlotsChange::All(slots.into_vec()),
+            ticked: None,
+            restless: false,
+        };
+        let answer = StartdAnswer::Done;
+        Ok(PreparedStartd {
+            change,
+            step: StartdStep { mails, answer },
         })
     }
-}
 
-// The slot of a place stands so. Whether its startd, which is restless or isn't, is so then.
-fn put_state(slots: &mut Vec<Slot>, place: usize, state: SlotState, restless: bool) -> bool
-    requires { place < length slots.old.items }
-    ensures slots { (slot : Slot) → slice_get slots.old.items place ≡ Some slot
-        → slots.new.items ≡ slice_set slots.old.items place (record slot { state = state }) }
-    ensures restless { (slot : Slot) → slice_get slots.old.items place ≡ Some slot
-        → result ≡ (restless || has_entered slot.state state) }
-{
-    let slot = &mut slots[place];
-    let entered = has_entered(&slot.state, &state);
-    slot.state = state;
-    restless || entered
+    /// What was prepared happens, without memory, which can't fail; what is sent and done. Computes
+    /// in O(slots).
+    pub fn commit(&mut self, prepared: PreparedStartd) -> StartdStep
+        requires { IsSound (startd_after prepared self.old) }
+        ensures startd { self.new ≡ startd_after prepared self.old }
+        ensures step { result ≡ prepared.step }
+    {
+        let (change, step) = prepared.into_parts();
+        let StartdChange {
+            boot,
+            offers,
+            slots,
+            ticked,
+            restless,
+        } = change;
+        slots.commit(&mut self.slots);
+        self.machine.boot = boot;
+        self.offers = offers;
+        self.ticked = ticked;
+        self.restless = restless;
+        step
+    }
 }
 
 // A mail that speaks of a slot which the machine doesn't have.

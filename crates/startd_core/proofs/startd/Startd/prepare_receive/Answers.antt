@@ -1,0 +1,8 @@
+use Rattle.std.proofs.Common.{sym, subst}
+use Rattle.startd_core.specs.Sound.{IsSound}
+use Rattle.startd_core.proofs.Stays.{mail_stays}
+use Rattle.startd_core.proofs.startd.Startd.prepare_receive.Goals as goal
+
+pub returns-clause-sound : goal.returns-clause-sound
+returns-clause-sound c =
+    subst IsSound (sym c.in_ok-prepared.ensures.startd) (mail_stays c.args.self.now c.args.mail.now c.args.judged c.args.reading c.soundness.ensures)
