@@ -1,11 +1,12 @@
 -- What was prepared makes of a schedd.
 use Rattle.std.specs.Prelude.{◌≡◌, ℕ, ◌<◌, List, [], ◌∷◌, ◌++◌, length, Option, None, vec_capacity, vec_len}
+use Rattle.std.specs.BTreeMap.{insert_entry}
 use Rattle.std.specs.Global.{Vec}
 use Rattle.std.specs.Map.{remove_entry}
 use Rattle.claim_id.specs.declared.numbers.JobId.{JobId}
 use Rattle.queue_tx.specs.declared.key.Key.{Key}
 use Rattle.queue_tx.specs.declared.key.Key.TheVariants.{Proc}
-use Rattle.queue_tx.specs.Keys.{same_key}
+use Rattle.queue_tx.specs.Keys.{key_cmp, same_key}
 use Rattle.schedd_table.specs.declared.claims.KeptClaim.{KeptClaim}
 use Rattle.schedd_table.specs.declared.runs.KeptRun.{KeptRun}
 use Rattle.schedd_table.specs.KeptClaims.{with_stage, with_job, claims_without}
@@ -49,11 +50,13 @@ runs_after (runs.All list) rs = list.items
 
 abbrev pub looks_after : LooksChange → List (Key × ℕ) → List (Key × ℕ)
 looks_after looks.Same ls = ls
+looks_after (looks.Put look) ls = insert_entry key_cmp ls look.0 look.1
 looks_after (looks.Forget job) ls = remove_entry (same_key (Proc job)) ls
 looks_after looks.Clear ls = []
 
 abbrev pub passed_after : LooksChange → Option Key → Option Key
 passed_after looks.Same passed = passed
+passed_after (looks.Put look) passed = passed
 passed_after (looks.Forget job) passed = passed
 passed_after looks.Clear passed = None
 

@@ -4,6 +4,7 @@ ghost use Rattle.std.specs.Prelude.{◌≡◌, ◌<◌, ◌≤◌, ◌+◌, ◌+
 ghost use Rattle.schedd_core.specs.PreparedSchedds.{CanPut, claims_after, left_after, looks_after, passed_after, runs_after};
 
 use crate::looks::Looks;
+use crate::new_look::NewLook;
 use crate::schedd::take_off;
 use claim_id::{ClaimNo, JobId};
 use queue_tx::Key;
@@ -119,13 +120,25 @@ impl Drop for RunsChange {
 }
 
 /// What becomes of the looks at periodic expressions.
-#[derive(Drop)]
 pub(crate) enum LooksChange {
     Same,
+    /// A job is looked at.
+    Put(NewLook),
     /// A job is forgotten.
     Forget(JobId),
     /// All jobs are forgotten.
     Clear,
+}
+
+impl Drop for LooksChange {
+    fn drop(self) {
+        match self {
+            LooksChange::Same => {}
+            LooksChange::Put(_look) => {}
+            LooksChange::Forget(_) => {}
+            LooksChange::Clear => {}
+        }
+    }
 }
 
 /// What an event makes of a schedd.
@@ -197,6 +210,7 @@ impl LooksChange {
     {
         match self {
             LooksChange::Same => passed,
+            LooksChange::Put(_) => passed,
             LooksChange::Forget(_) => passed,
             LooksChange::Clear => None,
         }
@@ -207,6 +221,7 @@ impl LooksChange {
     {
         match self {
             LooksChange::Same => {}
+            LooksChange::Put(look) => looks.put(look),
             LooksChange::Forget(job) => looks.remove(&Key::Proc(job)),
             LooksChange::Clear => *looks = Looks::new(),
         }

@@ -8,6 +8,7 @@ mod due_checks;
 mod change;
 pub mod laws;
 mod looks;
+mod new_look;
 mod prepared;
 mod reopened;
 mod schedd;

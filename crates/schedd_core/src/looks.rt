@@ -1,6 +1,6 @@
 // When the periodic expressions of jobs were looked at last, by the job and by the time.
 
-ghost use Rattle.std.specs.Prelude.{◌≡◌, [], IfOk, OnErr, None, Some};
+ghost use Rattle.std.specs.Prelude.{◌≡◌, [], None, Some};
 ghost use Rattle.std.specs.BTreeMap.{insert_entry};
 ghost use Rattle.std.specs.Map.{lookup, remove_entry};
 ghost use Rattle.std.specs.Option.{option_copied};
@@ -8,10 +8,9 @@ ghost use Rattle.queue_tx.specs.Keys.{key_cmp, same_key};
 ghost use Rattle.schedd_core.specs.DueChecks.{was_checked};
 ghost use Rattle.schedd_core.specs.Looks.{FirstLook, IsOldest, SetsTimes, look_of};
 
-use ad_value::Memory;
+use crate::new_look::NewLook;
 use ordered_map::{NewEntry, OrderedMap};
 use queue_tx::Key;
-use std::alloc::Global;
 use std::cmp::Ordering;
 use std::marker::Model;
 use std::ops::Bound;
@@ -121,18 +120,15 @@ impl Looks {
         self.by_job.get(key).is_some()
     }
 
-    /// A job is looked at. An error leaves all as it was.
-    pub(crate) fn put(&mut self, alloc: Global, key: Key, at: u64) -> Result<(), Memory>
-        ensures put { IfOk result (λ _. self.new ≡ insert_entry key_cmp self.old key at) }
-        ensures kept { OnErr result (self.new ≡ self.old) }
+    /// A job is looked at, without memory.
+    pub(crate) fn put(&mut self, look: NewLook)
+        ensures { self.new ≡ insert_entry key_cmp self.old look.0 look.1 }
     {
-        let entry = NewEntry::new(alloc, key, at)?;
-        let time = NewEntry::new(alloc, Look { at, key }, Noted)?;
-        let lost = last_look(&self.by_job, &key);
+        let NewLook { entry, time } = look;
+        let lost = last_look(&self.by_job, entry.key());
         give_up(&mut self.by_time, lost);
         take(&mut self.by_time, time);
         self.by_job.put(entry);
-        Ok(())
     }
 
     /// A job is forgotten.

@@ -1,6 +1,8 @@
 ghost use Rattle.std.specs.Prelude.{◌≡◌, ◌∷◌, [], Some, None, true, not, IfOk, IfSome, OnErr, slice_get};
+ghost use Rattle.std.specs.BTreeMap.{insert_entry};
 ghost use Rattle.pool_mail.specs.declared.mail.Mail.TheVariants as of_mail;
 ghost use Rattle.pool_view.specs.Numbers.{same_job};
+ghost use Rattle.queue_tx.specs.Keys.{key_cmp};
 ghost use Rattle.queue_tx.specs.Queues.{ad_at};
 ghost use Rattle.queue_tx.specs.declared.key.Key.TheVariants.{Proc};
 ghost use Rattle.schedd_table.specs.JobPlaces.{job_place};
@@ -16,13 +18,14 @@ ghost use Rattle.schedd_core.specs.Checks.{is_unchecked, is_check_due, policy_pl
 ghost use Rattle.schedd_core.specs.DueChecks.{IsFirstDue, IsPassed, Passes, with_new};
 ghost use Rattle.schedd_core.specs.Looks.{IsOldest};
 ghost use Rattle.schedd_core.specs.Logging.{run_of_job, stops, is_marked, is_stopped, alives, activates, mails_of_plan, taken_off, after_plan, after_logged, IsReopened};
-ghost use Rattle.schedd_core.specs.Schedds.{nothing_done, plans, says, crashed, IsOpened, engages_job};
+ghost use Rattle.schedd_core.specs.Schedds.{nothing_done, plans, says, waits_for, crashed, IsOpened, engages_job};
 ghost use Rattle.schedd_core.specs.PreparedSchedds.{CanPut, HasClaimRoom, IsRoomFor, change_after, claims_after, runs_after, schedd_after};
 
 use crate::answer::ScheddStep;
 use crate::change::{ClaimsChange, LeftChange, LooksChange, RunsChange, ScheddChange};
 use crate::due_checks::{first_due, job_of_key, passed_on};
 use crate::looks::Looks;
+use crate::new_look::NewLook;
 use crate::prepared::PreparedSchedd;
 use crate::reopened::{first_run, found_claims, found_runs, next_after, number_after, still_left};
 use crate::search::{first_free, under_jobs};
@@ -911,7 +914,6 @@ impl Schedd {
     /// A look at the periodic expressions of a job. The queue is the one as logged, and no
     /// transaction is unfinished. After an error the schedd is as it was. Computes in O(log jobs +
     /// jobs left), and the evaluation of up to three expressions.
-    #[tactic(auto, unfolding(crate::specs::Checks::after_check))]
     pub fn check(
         &mut self,
         alloc: Global,
@@ -925,19 +927,65 @@ impl Schedd {
             ≡ (after_check self.old queue.now job reading).step) }
         ensures kept { OnErr result (self.new ≡ self.old) }
     {
+        let prepared = self.prepare_check(alloc, queue, job, reading)?;
+        Ok(self.commit(prepared))
+    }
+
+    /// `check` but for its `commit`: takes the memory, and changes nothing.
+    #[tactic(auto, unfolding(crate::specs::Checks::after_check))]
+    pub fn prepare_check(
+        &self,
+        alloc: Global,
+        queue: &Queue,
+        job: JobId,
+        reading: u64,
+    ) -> Result<PreparedSchedd, Memory>
+        ensures schedd { IfOk result (λ p. schedd_after p self.now
+            ≡ (after_check self.now queue.now job reading).schedd) }
+        ensures step { IfOk result (λ p. p.step
+            ≡ (after_check self.now queue.now job reading).step) }
+        ensures room { IfOk result (λ p. HasClaimRoom p self.now) }
+    {
         let Some(ad) = ad_of(queue, job) else {
-            return Ok(ScheddStep::nothing(alloc));
+            return Ok(self.nothing(alloc));
         };
         let place = self.place(queue, job);
         let plan = self.policy_plan(alloc, place, job, ad, reading)?;
-        self.checked.put(alloc, Key::Proc(job), reading)?;
-        match plan {
-            Some(plan) => {
-                self.waiting = Some(plan);
-                Ok(ScheddStep::plan(alloc, plan))
-            }
-            None => Ok(ScheddStep::nothing(alloc)),
-        }
+        let look = NewLook::new(alloc, Key::Proc(job), reading)?;
+        Ok(self.look_at(alloc, look, plan))
+    }
+
+    // A job is looked at, and perhaps a plan is to be logged.
+    fn look_at(&self, alloc: Global, look: NewLook, plan: Option<JobPlan>) -> PreparedSchedd
+        ensures schedd { schedd_after result self.now ≡ (waits_for plan (record self.now {
+          checked = insert_entry key_cmp self.now.checked look.0 look.1;
+        })).schedd }
+        ensures step { result.step ≡ (waits_for plan self.now).step }
+        ensures room { HasClaimRoom result self.now }
+    {
+        let Some(plan) = plan else {
+            return self.looked(look, self.waiting, ScheddStep::nothing(alloc));
+        };
+        self.looked(look, Some(plan), ScheddStep::plan(alloc, plan))
+    }
+
+    fn looked(&self, look: NewLook, waiting: Option<JobPlan>, step: ScheddStep) -> PreparedSchedd
+        ensures schedd { schedd_after result self.now ≡ record self.now {
+          checked = insert_entry key_cmp self.now.checked look.0 look.1;
+          waiting = waiting;
+        } }
+        ensures step { result.step ≡ step }
+        ensures room { HasClaimRoom result self.now }
+    {
+        let change = ScheddChange {
+            next_run: self.next_run,
+            left: LeftChange::Same,
+            claims: ClaimsChange::Same,
+            runs: RunsChange::Same,
+            looks: LooksChange::Put(look),
+            waiting,
+        };
+        PreparedSchedd { change, step }
     }
 
     // ---- what was logged
