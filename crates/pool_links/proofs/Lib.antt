@@ -19,3 +19,4 @@ pub mod Wanting
 pub mod Launching
 pub mod Reviewing
 pub mod Bringing
+pub mod Completing

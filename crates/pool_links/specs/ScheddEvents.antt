@@ -103,6 +103,10 @@ Finishes (plan.Complete job completion) q old new =
 Finishes (plan.Remove job) q old new = TakesOut (plan.Remove job) job q old new
 Finishes _ q old new = new ≡ old
 
+-- an ad names a run
+abbrev pub NamesSomeRun : Attributes → Type 0
+NamesSomeRun ad = (claim : ClaimId) × (number : ℕ) × (end : ℕ) × NamesRun ad claim number end
+
 -- a plan is logged, with the queue that came of it
 abbrev pub parts_with_plan : JobPlan → KeyedAds → (JobId → Option Entry) → PoolParts → PoolParts
 parts_with_plan p new finished a = record a {

@@ -1,6 +1,6 @@
 //! What the events of the schedd do to the parts of a pool.
 
-ghost use Rattle.std.specs.Prelude.{◌≡◌, ℕ, ◌≤◌, List, [], ◌∷◌, ◌++◌, map, Option, None, Some, Ok, if◌then◌else◌};
+ghost use Rattle.std.specs.Prelude.{◌≡◌, ℕ, ◌≤◌, List, [], ◌∷◌, ◌++◌, map, Option, None, Some, Ok, IsSomeAnd, if◌then◌else◌};
 ghost use Rattle.claim_id.specs.declared.numbers.ClaimId.{ClaimId};
 ghost use Rattle.claim_id.specs.declared.numbers.JobId.{JobId};
 ghost use Rattle.pool_mail.specs.declared.mail.Mail.{Mail};
@@ -10,8 +10,11 @@ ghost use Rattle.pool_protocol.specs.ProtocolMove.{Commit, Drop, Pend, confirm_m
 ghost use Rattle.pool_view.specs.AbstractPool.{IsIn};
 ghost use Rattle.pool_view.specs.declared.job.Entry.{Entry};
 ghost use Rattle.queue_tx.specs.Operations.{Operation};
-ghost use Rattle.queue_tx.specs.Queues.{KeyedAds, queue_after};
+ghost use Rattle.queue_tx.specs.declared.key.Key.TheVariants.{Proc};
+ghost use Rattle.queue_tx.specs.Queues.{KeyedAds, ad_at, queue_after};
+ghost use Rattle.schedd_plan.specs.declared.plan.Completion.{Completion};
 ghost use Rattle.schedd_plan.specs.declared.plan.JobPlan.{JobPlan};
+ghost use Rattle.schedd_plan.specs.declared.plan.JobPlan.TheVariants.{Complete};
 ghost use Rattle.schedd_plan.specs.Plans.{plan_ops};
 ghost use Rattle.schedd_core.specs.declared.answer.ScheddStep.{ScheddStep};
 ghost use Rattle.schedd_core.specs.Checks.{after_check};
@@ -25,7 +28,7 @@ ghost use Rattle.schedd_core.specs.Ticks.{IsTicked};
 ghost use Rattle.pool_links.specs.Bringing.{AreIdleJobs, AreOfHeader, JobAd, all_bringing_ops, new_job_of};
 ghost use Rattle.pool_links.specs.Linked.{BringsJobs, IsLinked, StayLinked, new_job_id};
 ghost use Rattle.pool_links.specs.PoolParts.{NewJobs, Planned, PoolParts};
-ghost use Rattle.pool_links.specs.ScheddEvents.{AreNewJobs, Finishes, is_known, job_removed, moves_of_schedd_mail, orders_of_mail, parts_with_return, parts_with_jobs, parts_with_plan, parts_with_schedd, parts_with_submission};
+ghost use Rattle.pool_links.specs.ScheddEvents.{AreNewJobs, Finishes, NamesSomeRun, is_known, job_removed, moves_of_schedd_mail, orders_of_mail, parts_with_return, parts_with_jobs, parts_with_plan, parts_with_schedd, parts_with_submission};
 
 /// A schedd that receives a mail, ticks, or looks at the periodic expressions of a job, while
 /// nothing is unfinished, keeps the links, by the moves that are named for what it plans. An order
@@ -82,6 +85,13 @@ pub fn logged_transactions_keep_links()
         → queue_after a.queue tx ≡ Ok new
         → (jobs : List NewJob) × (map new_job_id jobs ≡ ids)
         × StayLinked p (Commit ∷ map confirm_move jobs) (parts_with_jobs ids new a) }
+{}
+
+/// The ad of a job whose end waits to be logged names the run that has ended.
+pub fn completed_jobs_name_runs()
+    ensures { (p : Protocol) (a : PoolParts) (job : JobId) (completion : Completion)
+        → IsLinked p a → a.awaited ≡ Some (Planned (Complete job completion))
+        → IsSomeAnd (ad_at (Proc job) a.queue) NamesSomeRun }
 {}
 
 /// A schedd that comes back keeps the links: with the plan or the submission that was unfinished,
