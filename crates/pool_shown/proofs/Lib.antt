@@ -1,0 +1,3 @@
+mod CoreNames
+mod DoneJobs
+mod Steps

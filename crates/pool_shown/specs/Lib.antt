@@ -1,0 +1,2 @@
+pub mod ShownJobs
+pub mod ShownSlots
