@@ -9,7 +9,7 @@ use Rattle.queue_tx.specs.declared.key.Key.{Key}
 use Rattle.queue_tx.specs.declared.key.Key.TheVariants.{Header, Proc}
 use Rattle.queue_tx.specs.declared.names.TheConstants.{NEXT_CLUSTER_NUM}
 use Rattle.queue_tx.specs.Queues.{KeyedAds, ad_at}
-use Rattle.schedd_plan.specs.Reading.{natural_at}
+use Rattle.schedd_plan.specs.JobAttributes.{natural_at}
 
 abbrev pub is_of_cluster : ℕ → Key → Bool
 is_of_cluster cluster Header = false
