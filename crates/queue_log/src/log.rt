@@ -76,6 +76,13 @@ impl<D: Store> Model for Log<D> {
 }
 
 impl<D: Store> Log<D> {
+    /// The name of its file. Computes in O(1), without memory.
+    pub fn name(&self) -> &str
+        ensures { result.now ≡ self.now.name }
+    {
+        self.name.as_str()
+    }
+
     /// The queue that the transactions build. Computes in O(1), without memory.
     pub fn queue(&self) -> &Queue
         ensures queue { result.now ≡ self.now.queue }
