@@ -84,11 +84,24 @@ pub(crate) fn write_beside(
 ) -> Result<(), CaseError> {
     let text = format!(in alloc; " {number}")?;
     for _ in 0..TRIES {
-        match log.append_beside(alloc, NUMBERS, text.as_str().as_bytes()) {
+        match write_once(alloc, case, log, text.as_str())? {
             Ok(()) => return Ok(()),
             Err(LogError::Disk) => out.push_str(" number")?,
             Err(_) => return Err(CaseError::Memory),
         }
     }
     Err(CaseError::Form { line: case.line })
+}
+
+// The file beside a log isn't that of the log.
+fn write_once(
+    alloc: Global,
+    case: Case<'_>,
+    log: &mut Log<MemStore>,
+    text: &str,
+) -> Result<Result<(), LogError>, CaseError> {
+    if NUMBERS == log.name() {
+        return Err(CaseError::Form { line: case.line });
+    }
+    Ok(log.append_beside(alloc, NUMBERS, text.as_bytes()))
 }
