@@ -3,14 +3,18 @@
 //! `schedd_bench N` makes a queue of 8 jobs under runs and N others: idle jobs that make the
 //! request of the claims, idle jobs that make another one, idle jobs with a periodic expression, or
 //! jobs that an earlier boot left. It prints what came of each, and on standard error how long
-//! `due`, ticks that lengthen a lease or let a job go, and ticks in which a claim seeks a job took.
+//! `due`, ticks that lengthen a lease or let a job go, ticks in which a claim seeks a job, looks at
+//! periodic expressions and `first_check` took.
 #![tactic(auto)]
 
 mod queues;
 mod schedds;
 
 use crate::queues::{Crowd, crowd_text, lone_text, read_queue, write_running};
-use crate::schedds::{back_again, due_often, end_claim, give_claim, seek, tick_often};
+use crate::schedds::{
+    BACK, BETWEEN_LOOKS, back_again, due_often, end_claim, first_often, give_claim, look_at_all,
+    seek, tick_often,
+};
 use anyhow::{Context, Result};
 use queue_tx::Queue;
 use schedd_core::Schedd;
@@ -23,6 +27,8 @@ const RUNNING: u32 = 8;
 const TIMES: u64 = 1_000;
 
 const SEEKS: u64 = 100;
+
+const MOST_LOOKS: u32 = 1_000_000;
 
 fn main(rt: HostRuntime) -> Result<()> {
     let count = env::args(&rt)?.nth(1).context("how many jobs?")?;
@@ -53,7 +59,8 @@ fn time_schedd(rt: &HostRuntime, before: &Queue, queue: &Queue, what: &str) -> R
     println!(rt; "{what}: {runs} runs, {left} left")?;
     time_due(rt, &schedd, queue)?;
     time_ticks(rt, &mut schedd, queue)?;
-    time_seeks(rt, &mut schedd, queue)
+    time_seeks(rt, &mut schedd, queue)?;
+    time_looks(rt, &mut schedd, queue)
 }
 
 fn time_due(rt: &HostRuntime, schedd: &Schedd, queue: &Queue) -> Result<()> {
@@ -90,5 +97,26 @@ fn time_seeks(rt: &HostRuntime, schedd: &mut Schedd, queue: &Queue) -> Result<()
     }
     println!(rt; "{granted} granted")?;
     eprintln!(rt; "seeking: {nanos} nanoseconds for {SEEKS}")?;
+    Ok(())
+}
+
+// Before any look, once none is due any more, and once each is due again.
+fn time_looks(rt: &HostRuntime, schedd: &mut Schedd, queue: &Queue) -> Result<()> {
+    time_first(rt, schedd, queue, BACK)?;
+    let start = Instant::now(rt)?;
+    let looks = look_at_all(rt.alloc(), schedd, queue, BACK, MOST_LOOKS)?;
+    let micros = start.elapsed(rt)?.as_micros();
+    println!(rt; "{looks} looks")?;
+    eprintln!(rt; "looks: {micros} microseconds for {looks}")?;
+    time_first(rt, schedd, queue, BACK)?;
+    time_first(rt, schedd, queue, BACK.saturating_add(BETWEEN_LOOKS))
+}
+
+fn time_first(rt: &HostRuntime, schedd: &Schedd, queue: &Queue, reading: u64) -> Result<()> {
+    let start = Instant::now(rt)?;
+    let found = first_often(schedd, queue, reading, TIMES);
+    let micros = start.elapsed(rt)?.as_micros();
+    println!(rt; "{found} first checks")?;
+    eprintln!(rt; "first check: {micros} microseconds for {TIMES}")?;
     Ok(())
 }

@@ -6,10 +6,13 @@ use schedd_core::Schedd;
 use schedd_plan::JobPlan;
 use std::alloc::Global;
 
-// When the schedd came back.
-const BACK: u64 = 100_000;
+/// When the schedd came back.
+pub(crate) const BACK: u64 = 100_000;
 // How long it is from one tick to the next, so that each of 8 runs has its turn.
 const STEP: u64 = 38;
+
+/// How long it is from one look at a job's periodic expressions to the next.
+pub(crate) const BETWEEN_LOOKS: u64 = 300;
 
 const SETTINGS: Settings = Settings {
     update_interval: 300,
@@ -17,7 +20,7 @@ const SETTINGS: Settings = Settings {
     claim_lease: 1_200,
     job_lease: 1_200,
     alive_interval: 300,
-    periodic_interval: 300,
+    periodic_interval: BETWEEN_LOOKS,
     retirement: 0,
     vacate: 600,
 };
@@ -50,6 +53,38 @@ pub(crate) fn due_often(schedd: &Schedd, queue: &Queue, times: u64) -> u64 {
         }
     }
     due
+}
+
+/// Asks so often at which job a look is due first; how often there was one.
+pub(crate) fn first_often(schedd: &Schedd, queue: &Queue, reading: u64, times: u64) -> u64 {
+    let mut found = 0u64;
+    for _ in 0..times {
+        if schedd.first_check(queue, reading).is_some() {
+            found = found.saturating_add(1);
+        }
+    }
+    found
+}
+
+/// A look at each job at which one is due, one after the other, of so many at most; how many were.
+pub(crate) fn look_at_all(
+    alloc: Global,
+    schedd: &mut Schedd,
+    queue: &Queue,
+    reading: u64,
+    most: u32,
+) -> Result<u64, Memory> {
+    let mut looks = 0u64;
+    for _ in 0..most {
+        let Some(job) = schedd.first_check(queue, reading) else {
+            return Ok(looks);
+        };
+        let _step = schedd.check(alloc, queue, job, reading)?;
+        let _mails = schedd.logged(alloc, queue)?;
+        schedd.move_mark(queue);
+        looks = looks.saturating_add(1);
+    }
+    Ok(looks)
 }
 
 /// So many ticks; how many of them planned something.
