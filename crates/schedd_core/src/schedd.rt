@@ -148,6 +148,13 @@ impl Schedd {
         self.left.as_slice()
     }
 
+    /// The number of the run that is granted next. Computes in O(1).
+    pub fn next_run(&self) -> u64
+        ensures { result ≡ self.now.next_run }
+    {
+        self.next_run
+    }
+
     /// Whether a claim that is asked for or ready names the job. Computes in O(claims).
     pub fn engages(&self, job: JobId) -> bool
         ensures { result ≡ engages_job self.now job }
