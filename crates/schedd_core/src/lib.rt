@@ -4,8 +4,8 @@
 #![tactic(auto)]
 
 mod answer;
-mod due_checks;
 mod change;
+mod due_checks;
 pub mod laws;
 mod looks;
 mod new_look;
