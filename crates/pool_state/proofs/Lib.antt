@@ -1,0 +1,3 @@
+mod DueKeys
+mod LiveMatches
+mod Opened
