@@ -1,6 +1,9 @@
-ghost use Rattle.std.specs.Prelude.{◌≡◌, ◌↔◌, IfOk, IsTrue, length, map, slice_get};
+ghost use Rattle.std.specs.Prelude.{◌≡◌, ◌↔◌, ◌<◌, IfOk, IsTrue, Some, length, map, slice_get, slice_set};
 ghost use Rattle.std.specs.Option.{option_copied};
 ghost use Rattle.pool_machines.specs.Slots.{all_slots, first_claimed, first_left, has_run, slot_ads, slot_at, slot_numbered, told_at};
+ghost use Rattle.startd_core.specs.PreparedStartds.{startd_after};
+ghost use Rattle.startd_core.specs.Sound.{IsSound};
+ghost use Rattle.startd_core.specs.Startds.{StartdValue};
 
 use crate::ads::ads_after_all;
 use crate::claimed::first_claimed;
@@ -11,7 +14,7 @@ use ad_value::Memory;
 use claim_id::{RunNo, SlotId};
 use pool_mail::{Ending, SlotAdList};
 use receipt_roll::Receipt;
-use startd_core::Startd;
+use startd_core::{PreparedStartd, Startd, StartdStep};
 use startd_slot::Slot;
 use std::alloc::Global;
 use std::marker::Model;
@@ -75,6 +78,19 @@ impl Machines {
         ensures { option_copied result ≡ slice_get self.now machine }
     {
         self.list.get(usize::from(machine))
+    }
+
+    /// What was prepared happens to the startd of a machine, without memory, which can't fail; what
+    /// is sent and done. Computes in O(slots of the machine).
+    pub fn commit(&mut self, machine: u16, prepared: PreparedStartd) -> StartdStep
+        requires within { machine < length self.old }
+        requires sound { (v : StartdValue) → slice_get self.old machine ≡ Some v
+            → IsSound (startd_after prepared v) }
+        ensures machines { (v : StartdValue) → slice_get self.old machine ≡ Some v
+            → self.new ≡ slice_set self.old machine (startd_after prepared v) }
+        ensures step { result ≡ prepared.step }
+    {
+        self.list[usize::from(machine)].commit(prepared)
     }
 
     /// The slot of that number. Computes in O(1).

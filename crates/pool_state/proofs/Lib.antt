@@ -1,3 +1,2 @@
-mod DueKeys
 mod LiveMatches
 mod Opened

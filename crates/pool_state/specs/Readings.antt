@@ -13,8 +13,6 @@ use Rattle.pool_state.specs.PoolJobs.{is_engaged}
 use Rattle.pool_state.specs.Refusals.{is_startd_due}
 use Rattle.pool_tables.specs.declared.states.DaemonState.{DaemonState}
 use Rattle.pool_tables.specs.DaemonTables.{is_up, state_of}
-use Rattle.queue_tx.specs.declared.key.Key.{Key}
-use Rattle.queue_tx.specs.declared.key.Key.TheVariants.{Header, Proc}
 use Rattle.queue_tx.specs.declared.kind.JobKind.TheVariants.{Idle}
 use Rattle.queue_tx.specs.Queues.{KeyedAds}
 use Rattle.schedd_core.specs.Schedds.{ScheddValue}
@@ -33,10 +31,6 @@ boot_of (Some s) = s.boot
 abbrev pub IsSomeCheckDue : ScheddValue → KeyedAds → ℕ → Type 0
 IsSomeCheckDue v q reading = (job : JobId) × (is_check_due v q job reading ≡ true)
 
-abbrev pub is_key_due : ScheddValue → KeyedAds → ℕ → Key → Bool
-is_key_due v q reading Header = false
-is_key_due v q reading (Proc job) = is_check_due v q job reading
-
 abbrev pub IsDueUp : Daemon → PoolState → ℕ → Type 0
 IsDueUp Schedd s reading =
     (is_due s.schedd s.queue reading ≡ true) ⊎ IsSomeCheckDue s.schedd s.queue reading
@@ -46,6 +40,14 @@ IsDueUp Matchmaker s reading = ⊥
 -- something is due of a daemon, which is up
 abbrev pub IsDue : Daemon → PoolState → ℕ → Type 0
 IsDue who s reading = (is_up (state_of who s.daemons) ≡ true) × IsDueUp who s reading
+
+abbrev pub is_schedd_up : PoolState → Bool
+is_schedd_up s = is_up (state_of Schedd s.daemons)
+
+-- a look of the schedd, which is up, at the periodic expressions of the job is due
+abbrev pub IsCheckDue : JobId → PoolState → ℕ → Type 0
+IsCheckDue job s reading =
+    (is_schedd_up s ≡ true) × (is_check_due s.schedd s.queue job reading ≡ true)
 
 abbrev pub hangs_at : Option StartdValue → ℕ → Bool
 hangs_at None reading = false

@@ -3,7 +3,6 @@
 #![tactic(auto)]
 
 mod asked;
-mod checks;
 mod judging;
 mod opening;
 mod quiet;

@@ -1,16 +1,16 @@
 // What is read of a pool.
 
-ghost use Rattle.std.specs.Prelude.{◌≡◌, ◌≢◌, ◌⊎◌, ◌++◌, ◌∷◌, [], filter, if◌then◌else◌, not, IfErr, IfOk, IfSome, IsErrOf, IsSome, OnErr, Some, slice_get, true};
+ghost use Rattle.std.specs.Prelude.{◌≡◌, ◌≢◌, ◌⊎◌, ◌++◌, ◌∷◌, [], filter, if◌then◌else◌, not, false, IfErr, IfOk, IfSome, IsErrOf, IsSome, None, OnErr, Some, slice_get, true};
 ghost use Rattle.pool_machines.specs.Slots.{slot_at};
 ghost use Rattle.pool_past.specs.Clusters.{IsNextCluster};
 ghost use Rattle.pool_state.specs.PoolJobs.{has_job, is_engaged};
-ghost use Rattle.pool_state.specs.Readings.{AreWanted, IsDue, IsDueUp, IsLook, ad_of_slot, boot_of, hangs_on_slot, hangs_at};
+ghost use Rattle.pool_state.specs.Readings.{AreWanted, IsCheckDue, IsDue, IsDueUp, IsLook, IsSomeCheckDue, ad_of_slot, boot_of, hangs_on_slot, hangs_at, is_schedd_up};
 ghost use Rattle.pool_state.specs.Refusals.{is_startd_due};
 ghost use Rattle.pool_tables.specs.declared.refusal.MailError.TheVariants as error;
 ghost use Rattle.pool_tables.specs.DaemonTables.{state_of};
 ghost use Rattle.pool_tables.specs.MailLists.{IsMailTo, IsNextMail, IsOfPool, mail_error};
+ghost use Rattle.schedd_core.specs.DueChecks.{IsFirstDue, IsPassed};
 
-use crate::checks::is_some_check_due;
 use crate::state::PoolState;
 use ad_tree::Ad;
 use ad_value::{Copied, Memory};
@@ -45,9 +45,12 @@ impl PoolState {
     }
 
     /// Whether something is due of a daemon at a reading: never of one that is down, nor of the
-    /// matchmaker. True too where there is no memory to tell, which only a startd may want.
+    /// matchmaker. True too where there is no memory to tell, which only a startd may want. That a
+    /// look is told of wherever one is due holds where the jobs up to the schedd's mark were looked
+    /// at (`IsPassed`). Computes as the daemons' `due`, and for the schedd as its `first_check`.
     pub fn due(&self, alloc: Global, who: Daemon, reading: u64) -> bool
-        ensures due { IsDue who self.now reading → result ≡ true }
+        ensures due { IsPassed self.now.queue self.now.schedd
+            → IsDue who self.now reading → result ≡ true }
         ensures only { result ≡ true
             → IsDue who self.now reading ⊎ (hangs_on_slot who self.now reading ≡ true) }
     {
@@ -55,17 +58,43 @@ impl PoolState {
     }
 
     fn is_due_up(&self, alloc: Global, who: Daemon, reading: u64) -> bool
-        ensures due { IsDueUp who self.now reading → result ≡ true }
+        ensures due { IsPassed self.now.queue self.now.schedd
+            → IsDueUp who self.now reading → result ≡ true }
         ensures only { result ≡ true
             → IsDueUp who self.now reading ⊎ (hangs_on_slot who self.now reading ≡ true) }
     {
         match who {
-            Daemon::Schedd => {
-                self.schedd.due(&self.queue, reading)
-                    || is_some_check_due(&self.schedd, &self.queue, reading)
-            }
+            Daemon::Schedd => self.schedd.due(&self.queue, reading)
+                || self.is_some_check_due(reading),
             Daemon::Startd(machine) => is_tick_tried(self.is_startd_due(alloc, machine, reading)),
             Daemon::Matchmaker => false,
+        }
+    }
+
+    // Whether a look at the periodic expressions of some job is due.
+    fn is_some_check_due(&self, reading: u64) -> bool
+        ensures due { IsPassed self.now.queue self.now.schedd
+            → IsSomeCheckDue self.now.schedd self.now.queue reading → result ≡ true }
+        ensures only { result ≡ true → IsSomeCheckDue self.now.schedd self.now.queue reading }
+    {
+        self.schedd.first_check(&self.queue, reading).is_some()
+    }
+
+    /// The job at whose periodic expressions the schedd is to look next: one that was never looked
+    /// at since it came back, else the one that was looked at the longest ago; none where no look
+    /// is due, or the schedd is down. That it comes first, and that no look is due, holds where the
+    /// jobs up to the schedd's mark were looked at (`IsPassed`). Computes as
+    /// `Schedd::first_check`.
+    pub fn first_check(&self, reading: u64) -> Option<JobId>
+        ensures due { IfSome result (λ job. IsCheckDue job self.now reading) }
+        ensures first { IsPassed self.now.queue self.now.schedd → is_schedd_up self.now ≡ true
+            → IsFirstDue self.now.schedd self.now.queue reading result }
+        ensures down { is_schedd_up self.now ≡ false → result ≡ None }
+    {
+        if self.daemons.is_up(Daemon::Schedd) {
+            self.schedd.first_check(&self.queue, reading)
+        } else {
+            None
         }
     }
 
