@@ -1,0 +1,5 @@
+pub mod Few
+pub mod Histories
+pub mod Kept
+pub mod Orders
+pub mod Parts
