@@ -1,0 +1,9 @@
+use Rattle.std.proofs.Common.{refl}
+use Rattle.pool_moves.specs.Deeds.{at_rest, receives}
+use Rattle.pool_core.proofs.TooLarge.{made_large}
+use Rattle.pool_core.proofs.daemons.receive_by_matchmaker.Goals as goal
+
+pub returns-in_err-_bytes-clause-large : goal.returns-in_err-_bytes-clause-large
+returns-in_err-_bytes-clause-large c = λ is.
+    let s = c.args.state.now in
+    made_large (receives c.args.index (at_rest s)) s.counts.bytes refl c.in_err-_bytes.ensures.large

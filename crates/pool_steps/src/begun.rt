@@ -1,0 +1,121 @@
+// A transaction that is to be logged.
+
+ghost use Rattle.std.specs.Prelude.{◌≡◌, IfOk, Some, option_map};
+ghost use Rattle.pool_moves.specs.Answers.{answered, answer_with, pending_by, pending_tx};
+ghost use Rattle.pool_event.specs.declared.answer.Answer.TheVariants as answer;
+
+use ad_value::{Copied, Memory};
+use pool_event::{Answer, Kept, Stepped};
+use pool_pending::{Pending, Unfinished};
+use queue_tx::Tx;
+use schedd_plan::JobPlan;
+use std::alloc::Global;
+use std::marker::Model;
+
+/// A transaction that is to be logged, and what is answered of it, with all their memory. Contracts
+/// see the `Pending`.
+pub struct Begun {
+    pending: Pending,
+    answered: Tx,
+    kept: Tx,
+}
+
+impl Drop for Begun {
+    fn drop(self) {
+        let Begun {
+            pending: _pending,
+            answered: _answered,
+            kept: _kept,
+        } = self;
+    }
+}
+
+impl Model for Begun {
+    ghost use Rattle.std.specs.Coded.{codes};
+    ghost use Rattle.std.specs.Prelude.{◌≡◌};
+    ghost use Rattle.pool_pending.specs.contracts.pending.Pending as of_pending;
+    ghost use Rattle.pool_pending.specs.declared.pending.Pending.{Pending};
+
+    ghost Value = { Pending };
+
+    ghost coded = { Prim.hlevel (codes, of_pending.the_row.coded) };
+
+    ghost view = { λ b. b.pending };
+
+    ghost invariant = { λ b. (b.answered ≡ b.pending.tx) × (b.kept ≡ b.pending.tx) };
+}
+
+impl Begun {
+    /// A transaction of that number is to be logged. Computes in O(size of the transaction).
+    pub fn new(alloc: Global, number: u64, tx: Tx, what: Unfinished) -> Result<Begun, Memory>
+        ensures { IfOk result (λ b. b ≡ pending_tx number tx what) }
+    {
+        let answered = tx.copy(alloc)?;
+        let kept = tx.copy(alloc)?;
+        Ok(Begun {
+            pending: Pending { number, tx, what },
+            answered,
+            kept,
+        })
+    }
+
+    /// It is the unfinished one. Computes in O(1), without memory.
+    pub fn put(self, pending: &mut Option<Pending>) -> Stepped
+        ensures pending { pending.new ≡ Some self }
+        ensures answer { result ≡ answered (answer.Append self.number self.tx) }
+    {
+        let Begun {
+            pending: begun,
+            answered,
+            kept,
+        } = self;
+        let number = begun.number;
+        *pending = Some(begun);
+        Stepped {
+            answer: Answer::Append {
+                number,
+                tx: answered,
+            },
+            kept: Kept::Append { number, tx: kept },
+        }
+    }
+}
+
+/// What a schedd plans, perhaps nothing, is to be logged under that number.
+pub(crate) fn begin_plan(
+    alloc: Global,
+    number: u64,
+    plan: Option<JobPlan>,
+) -> Result<Option<Begun>, Memory>
+    ensures { IfOk result (λ begun. begun ≡ pending_by number plan) }
+{
+    let Some(plan) = plan else {
+        return Ok(None);
+    };
+    let tx = plan.tx(alloc)?;
+    Ok(Some(Begun::new(alloc, number, tx, Unfinished::Plan { plan })?))
+}
+
+/// What was begun, perhaps nothing, is unfinished from now on.
+pub(crate) fn put_begun(pending: &mut Option<Pending>, begun: Option<Begun>) -> Stepped
+    ensures pending { pending.new ≡ begun }
+    ensures answer { result ≡ answered (answer_with begun) }
+{
+    match begun {
+        Some(begun) => begun.put(pending),
+        None => {
+            *pending = None;
+            nothing_asked()
+        }
+    }
+}
+
+/// Nothing is asked for. Computes in O(1).
+pub fn nothing_asked() -> Stepped
+    ensures { result ≡ answered answer.Done }
+{
+    Stepped {
+        answer: Answer::Done,
+        kept: Kept::Done,
+    }
+}
