@@ -1,0 +1,13 @@
+pub mod Readers
+pub mod GivenByMarks
+pub mod Answered
+pub mod Rolls
+pub mod Refused
+pub mod LogCourse
+pub mod ScheddCourse
+pub mod SlotCourse
+pub mod ReactionCourse
+pub mod StartdCourse
+pub mod PassCourse
+pub mod MachineCourse
+pub mod Passes

@@ -1,0 +1,8 @@
+//! A desk with one holder, whose pass has the pool.
+#![tactic(auto)]
+
+mod pass;
+mod sole;
+
+pub use pass::SolePass;
+pub use sole::SoleDesk;
