@@ -51,14 +51,6 @@ impl Machines {
         Machines { list }
     }
 
-    /// The startds, without memory. Computes in O(1).
-    pub fn into_vec(self) -> Vec<Startd>
-        ensures { result.items ≡ self }
-    {
-        let Machines { list } = self;
-        list
-    }
-
     /// How many machines there are. Computes in O(1).
     pub fn len(&self) -> usize
         ensures { result ≡ length self.now }

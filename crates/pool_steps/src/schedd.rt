@@ -88,7 +88,7 @@ impl ScheddDeed {
     }
 
     // It is done, without memory.
-    fn commit(self, alloc: Global, state: &mut PoolState) -> Stepped
+    fn commit(self, state: &mut PoolState) -> Stepped
         requires room { length self.prepared.step.mails ≤ state.old.mails.spare }
         requires claims { HasClaimRoom self.prepared state.old.schedd }
         requires begun { self.begun ≡ pending_by state.old.next_tx self.prepared.step.plan }
@@ -117,7 +117,7 @@ impl ScheddDeed {
 }
 
 // What is ready is done.
-fn take_deed(alloc: Global, state: &mut PoolState, deed: ScheddDeed) -> Result<Stepped, Memory>
+fn take_deed(state: &mut PoolState, deed: ScheddDeed) -> Result<Stepped, Memory>
     requires claims { HasClaimRoom deed.prepared state.old.schedd }
     requires begun { deed.begun ≡ pending_by state.old.next_tx deed.prepared.step.plan }
     requires places { HasPlaces state.old.ordered deed.ordered }
@@ -130,7 +130,7 @@ fn take_deed(alloc: Global, state: &mut PoolState, deed: ScheddDeed) -> Result<S
     ensures kept { OnErr result (at_rest state.new ≡ at_rest state.old) }
 {
     state.mails.room(deed.mails())?;
-    Ok(deed.commit(alloc, state))
+    Ok(deed.commit(state))
 }
 
 /// Time passes for the schedd. Bytes where the pool would have more bytes of ads than it may; after
@@ -147,7 +147,7 @@ pub fn tick_schedd(alloc: Global, state: &mut PoolState, reading: u64) -> Result
 {
     let prepared = state.schedd.prepare_tick(alloc, &state.queue, reading)?;
     let deed = ScheddDeed::new(alloc, state, prepared, None)?;
-    let stepped = take_deed(alloc, state, deed)?;
+    let stepped = take_deed(state, deed)?;
     Ok(stepped)
 }
 
@@ -175,7 +175,7 @@ pub fn check(
         .prepare_check(alloc, &state.queue, job, reading)?;
     let ordered = ordered_job(prepared.step().plan);
     let deed = ScheddDeed::new(alloc, state, prepared, ordered)?;
-    let stepped = take_deed(alloc, state, deed)?;
+    let stepped = take_deed(state, deed)?;
     state.schedd.move_mark(&state.queue);
     Ok(stepped)
 }
@@ -241,7 +241,7 @@ pub fn receive_by_schedd(
     ensures kept { OnErr result (at_rest state.new ≡ at_rest state.old) }
 {
     let deed = ready_receipt(alloc, state, index, known, reading)?;
-    let stepped = take_deed(alloc, state, deed)?;
+    let stepped = take_deed(state, deed)?;
     state.mails.receive(index);
     Ok(stepped)
 }

@@ -1,6 +1,6 @@
 // What startds do.
 
-ghost use Rattle.std.specs.Prelude.{◌≡◌, ◌+◌, ◌<◌, ◌≤◌, ◌^◌, length, slice_get, slice_set, [], Err, Some, IfErr, IfOk, IfSome, IsSomeAnd, OnErr, OnOk};
+ghost use Rattle.std.specs.Prelude.{◌≡◌, ◌+◌, ◌<◌, ◌≤◌, ◌^◌, length, slice_get, [], Err, Some, IfErr, IfOk, IfSome, IsSomeAnd, OnErr, OnOk};
 ghost use Rattle.std.specs.Option.{option_copied};
 ghost use Rattle.startd_core.specs.PreparedStartds.{startd_after};
 ghost use Rattle.pool_moves.specs.Answers.{answer_of_startd};
@@ -22,16 +22,14 @@ use ad_eval::Judged;
 use ad_value::{Copied, Memory};
 use claim_id::{JobId, RunNo};
 use pool_event::{Answer, Kept, Stepped};
-use pool_machines::Machines;
 use pool_mail::{Ending, Mail};
 use pool_state::PoolState;
 use pool_tables::StepError;
 use pool_view::EndReport;
-use startd_core::{PreparedStartd, RunList, StartdAnswer, StartdStep};
+use startd_core::{PreparedStartd, RunList, StartdAnswer};
 use startd_slot::Slot;
 use std::alloc::Global;
 use std::collections::LinkedList;
-use std::mem::replace;
 
 /// What a startd is to do, what is kept of its answer, which runs have ended so, and how many bytes
 /// of ads the pool has then, with all their memory.
@@ -92,7 +90,7 @@ impl StartdDeed {
     }
 
     // It is done by the startd of a machine, without memory.
-    fn commit(self, alloc: Global, machine: u16, state: &mut PoolState) -> Stepped
+    fn commit(self, machine: u16, state: &mut PoolState) -> Stepped
         requires room { length self.prepared.step.mails ≤ state.old.mails.spare }
         requires within { machine < length state.old.machines }
         requires sound { (v : StartdValue) → slice_get state.old.machines machine ≡ Some v
@@ -115,7 +113,7 @@ impl StartdDeed {
             reports,
             bytes,
         } = self;
-        let step = commit_at(alloc, &mut state.machines, machine, prepared);
+        let step = state.machines.commit(machine, prepared);
         let (mails, answer) = step.into_parts();
         state.mails.put_all(mails);
         state.counts.bytes = bytes;
@@ -125,27 +123,6 @@ impl StartdDeed {
             kept,
         }
     }
-}
-
-// What was prepared is done by the startd of a machine.
-fn commit_at(
-    alloc: Global,
-    machines: &mut Machines,
-    machine: u16,
-    prepared: PreparedStartd,
-) -> StartdStep
-    requires within { machine < length machines.old }
-    requires sound { (v : StartdValue) → slice_get machines.old machine ≡ Some v
-        → IsSound (startd_after prepared v) }
-    ensures machines { (v : StartdValue) → slice_get machines.old machine ≡ Some v
-        → machines.new ≡ slice_set machines.old machine (startd_after prepared v) }
-    ensures step { result ≡ prepared.step }
-{
-    let none = Machines::from_vec(Vec::new(alloc));
-    let mut list = replace(machines, none).into_vec();
-    let step = list[usize::from(machine)].commit(prepared);
-    *machines = Machines::from_vec(list);
-    step
 }
 
 // What a startd's machine is to do.
@@ -188,12 +165,7 @@ fn copied_runs(alloc: Global, runs: &[RunNo]) -> Result<RunList, Memory>
 }
 
 // What is ready is done by the startd of a machine.
-fn take_deed(
-    alloc: Global,
-    state: &mut PoolState,
-    machine: u16,
-    deed: StartdDeed,
-) -> Result<Stepped, Memory>
+fn take_deed(state: &mut PoolState, machine: u16, deed: StartdDeed) -> Result<Stepped, Memory>
     requires within { machine < length state.old.machines }
     requires sound { (v : StartdValue) → slice_get state.old.machines machine ≡ Some v
         → IsSound (startd_after deed.prepared v) }
@@ -211,7 +183,7 @@ fn take_deed(
     ensures kept { OnErr result (at_rest state.new ≡ at_rest state.old) }
 {
     state.mails.room(deed.mails())?;
-    Ok(deed.commit(alloc, machine, state))
+    Ok(deed.commit(machine, state))
 }
 
 // What time is to make of the startd of a machine.
@@ -262,7 +234,7 @@ pub fn tick_startd(
     ensures kept { OnErr result (at_rest state.new ≡ at_rest state.old) }
 {
     let deed = ready_tick(alloc, state, machine, reading)?;
-    let stepped = take_deed(alloc, state, machine, deed)?;
+    let stepped = take_deed(state, machine, deed)?;
     Ok(stepped)
 }
 
@@ -328,7 +300,7 @@ pub fn receive_by_startd(
     ensures kept { OnErr result (at_rest state.new ≡ at_rest state.old) }
 {
     let deed = ready_receipt(alloc, state, machine, index, judged, reading)?;
-    let stepped = take_deed(alloc, state, machine, deed)?;
+    let stepped = take_deed(state, machine, deed)?;
     state.mails.receive(index);
     Ok(stepped)
 }
@@ -390,7 +362,7 @@ pub fn reboot_startd(
     ensures kept { OnErr result (at_rest state.new ≡ at_rest state.old) }
 {
     let deed = ready_reboot(alloc, state, machine, reading)?;
-    let stepped = take_deed(alloc, state, machine, deed)?;
+    let stepped = take_deed(state, machine, deed)?;
     Ok(stepped)
 }
 
@@ -448,7 +420,7 @@ pub fn end_run(
     ensures kept { OnErr result (at_rest state.new ≡ at_rest state.old) }
 {
     let deed = ready_end(alloc, state, machine, ending, reading)?;
-    let stepped = take_deed(alloc, state, machine, deed)?;
+    let stepped = take_deed(state, machine, deed)?;
     Ok(stepped)
 }
 

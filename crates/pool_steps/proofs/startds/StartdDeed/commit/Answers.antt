@@ -16,12 +16,12 @@ returns-clause-pool c = λ v there.
     let step = c.args.self.prepared.step in
     let bytes = c.args.self.bytes in
     let mails = c.into_parts-mails.result.0 in
-    let are : mails ≡ step.mails = ap (λ p. p.0) c.into_parts-mails.ensures ∙ ap (λ (s : StartdStep). s.mails) c.commit_at-step.ensures.step in
+    let are : mails ≡ step.mails = ap (λ p. p.0) c.into_parts-mails.ensures ∙ ap (λ (s : StartdStep). s.mails) c.commit-step.ensures.step in
     let sent : rested c.put_all.new.self ≡ posts step.mails old.mails =
     ap rested c.put_all.ensures ∙ posted_all mails old.mails ∙ ap (λ (ms : List Mail). posts ms old.mails) are in
     let vs = slice_set old.machines c.args.machine (startd_after c.args.self.prepared v) in
-    ap (λ (m : MailsValue). record old { machines = c.commit_at-step.new.machines; mails = m; counts = record old.counts { bytes = bytes }; reports = c.join.new.list }) sent
-    ∙ ap (λ (x : List StartdValue). record old { machines = x; mails = posts step.mails old.mails; counts = record old.counts { bytes = bytes }; reports = c.join.new.list }) (c.commit_at-step.ensures.machines v there)
+    ap (λ (m : MailsValue). record old { machines = c.commit-step.new.self; mails = m; counts = record old.counts { bytes = bytes }; reports = c.join.new.list }) sent
+    ∙ ap (λ (x : List StartdValue). record old { machines = x; mails = posts step.mails old.mails; counts = record old.counts { bytes = bytes }; reports = c.join.new.list }) (c.commit-step.ensures.machines v there)
     ∙ ap (λ (x : List EndReport). record old { machines = vs; mails = posts step.mails old.mails; counts = record old.counts { bytes = bytes }; reports = x }) c.join.ensures
     ∙ ap (λ (x : ℕ). record old { machines = vs; mails = posts step.mails old.mails; counts = record old.counts { bytes = x }; reports = old.reports ++ c.args.self.reports }) c.requires.bytes
 
@@ -30,5 +30,5 @@ returns-clause-mails c =
     let old = c.args.state.now in
     let step = c.args.self.prepared.step in
     let mails = c.into_parts-mails.result.0 in
-    let are : mails ≡ step.mails = ap (λ p. p.0) c.into_parts-mails.ensures ∙ ap (λ (s : StartdStep). s.mails) c.commit_at-step.ensures.step in
+    let are : mails ≡ step.mails = ap (λ p. p.0) c.into_parts-mails.ensures ∙ ap (λ (s : StartdStep). s.mails) c.commit-step.ensures.step in
     ap rested c.put_all.ensures ∙ posted_all mails old.mails ∙ ap (λ (ms : List Mail). posts ms old.mails) are
