@@ -15,11 +15,9 @@ use pool_event::Stepped;
 use pool_mail::Mail;
 use pool_outer::Daemon;
 use pool_state::PoolState;
-use pool_steps::{
-    limited, nothing_asked, reboot_startd, receive_by_schedd, receive_by_startd, reopen_schedd,
-    tick_schedd, tick_startd,
-};
+use pool_steps::{limited, nothing_asked, reboot_startd, receive_by_startd, tick_startd};
 use pool_tables::StepError;
+use schedd_steps::{receive_by_schedd, reopen_schedd, tick_schedd};
 use std::alloc::Global;
 
 /// A daemon receives the mail of a number. Memory too where there is no such mail, or it was

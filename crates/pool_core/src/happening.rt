@@ -15,8 +15,9 @@ use ad_value::Memory;
 use pool_event::{Event, Stepped};
 use pool_limits::event_size;
 use pool_state::PoolState;
-use pool_steps::{check, end_run, give_order, take_logged};
+use pool_steps::{end_run, give_order};
 use pool_tables::StepError;
+use schedd_steps::{check, take_logged};
 use std::alloc::Global;
 
 /// An event happens, where nothing refuses it.

@@ -1,28 +1,17 @@
--- What daemons do to a pool, by what is ready.
-use Rattle.std.proofs.Common.{◌≡◌, Bool, ℕ, List, [], Option, Some, None, IsSomeAnd, ap, refl, ◌∙◌}
+-- What startds do to a pool, by what is ready.
+use Rattle.std.proofs.Common.{◌≡◌, ℕ, List, [], Option, Some, None, IsSomeAnd, ap, refl, ◌∙◌}
 use Rattle.ad_eval.specs.Judgement.{Judgement}
-use Rattle.claim_id.specs.declared.numbers.JobId.{JobId}
 use Rattle.pool_event.specs.declared.answer.Stepped.{Stepped}
 use Rattle.pool_state.specs.declared.state.PoolState.{PoolState}
 use Rattle.pool_view.specs.declared.run.EndReport.{EndReport}
 use Rattle.pool_tables.specs.declared.sent.Sent.{Sent}
-use Rattle.schedd_core.specs.declared.answer.ScheddStep.{ScheddStep}
-use Rattle.schedd_core.specs.Rows.{after_mail as schedd_mail}
-use Rattle.schedd_core.specs.Schedds.{ScheddValue}
 use Rattle.startd_core.specs.declared.answer.StartdStep.{StartdStep}
 use Rattle.startd_core.specs.Startds.{After, StartdValue, after_mail}
-use Rattle.schedd_core.specs.PreparedSchedds.{schedd_after}
 use Rattle.startd_core.specs.PreparedStartds.{startd_after}
-use Rattle.pool_steps.specs.declared.schedd.ScheddDeed.{ScheddDeed}
 use Rattle.pool_steps.specs.declared.startds.StartdDeed.{StartdDeed}
-use Rattle.pool_moves.specs.Deeds.{at_rest, ordered_by, receives, schedd_acts, schedd_answer, startd_acts, startd_answer}
-use Rattle.pool_steps.specs.Ready.{IsReceiptDeed, IsStartdDeed}
-use Rattle.pool_moves.specs.Schedds.{ScheddReceives}
+use Rattle.pool_moves.specs.Deeds.{receives, startd_acts, startd_answer}
+use Rattle.pool_steps.specs.Ready.{IsStartdDeed}
 use Rattle.pool_moves.specs.Startds.{IsReceivedStep, IsStartdStep}
-
-pub acts_alike : (v w : ScheddValue) (s t : ScheddStep) (xs ys : List JobId) (pool : PoolState) → v ≡ w → s ≡ t → xs ≡ ys → schedd_acts v s xs pool ≡ schedd_acts w t ys pool
-acts_alike v w s t xs ys pool a b d =
-    ap (λ (x : ScheddValue). schedd_acts x s xs pool) a ∙ ap (λ (x : ScheddStep). schedd_acts w x xs pool) b ∙ ap (λ (x : List JobId). schedd_acts w t x pool) d
 
 pub startd_alike : (machine : ℕ) (v w : StartdValue) (s t : StartdStep) (xs ys : List EndReport) (pool : PoolState) → v ≡ w → s ≡ t → xs ≡ ys → startd_acts machine v s xs pool ≡ startd_acts machine w t ys pool
 startd_alike machine v w s t xs ys pool a b d =
@@ -62,18 +51,3 @@ pub received_from : (machine index : ℕ) (judged : Option Judgement) (reading :
 received_from machine index judged reading d (Some s) o old mid new r ready pool received answer =
     received_by machine index (λ v. after_mail v s.mail judged reading) d o old mid new r ready pool received answer
 received_from machine index judged reading d None o old mid new r ready pool received answer = ready
-
--- the schedd receives a mail with what is ready
-pub schedd_received : (index : ℕ) (known : Bool) (reading : ℕ) (d : ScheddDeed) (m : Option Sent) (old mid new : PoolState) (r : Stepped)
-    → IsSomeAnd m (λ s. IsReceiptDeed old s.mail known reading d)
-    → mid ≡ schedd_acts (schedd_after d.prepared old.schedd) d.prepared.step d.ordered old
-    → new ≡ receives index mid
-    → r ≡ schedd_answer old d.prepared.step
-    → IsSomeAnd m (λ s. ScheddReceives (at_rest old) index s.mail known reading new r)
-schedd_received index known reading d (Some s) old mid new r ready pool received answer =
-    let a = schedd_mail old.schedd old.queue s.mail reading in
-    record {
-      pool = received ∙ ap (receives index) (pool ∙ acts_alike (schedd_after d.prepared old.schedd) a.schedd d.prepared.step a.step d.ordered (ordered_by s.mail known) old ready.schedd ready.step ready.ordered);
-      answer = answer ∙ ap (schedd_answer old) ready.step;
-    }
-schedd_received index known reading d None old mid new r ready pool received answer = ready

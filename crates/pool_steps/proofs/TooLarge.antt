@@ -1,5 +1,5 @@
 -- What an event would make of a pool where that has too many bytes of ads.
-use Rattle.std.proofs.Common.{◌≡◌, ℕ, ◌+◌, ◌<◌, Bool, List, [], Option, Some, None, IsSomeAnd, refl}
+use Rattle.std.proofs.Common.{◌≡◌, ℕ, ◌+◌, ◌<◌, List, [], Option, Some, None, IsSomeAnd, refl}
 use Rattle.ad_eval.specs.Judgement.{Judgement}
 use Rattle.claim_id.specs.declared.numbers.JobId.{JobId}
 use Rattle.claim_id.specs.declared.order.Verb.{Verb}
@@ -7,58 +7,15 @@ use Rattle.pool_event.specs.declared.answer.Answer.TheVariants as answer
 use Rattle.pool_limits.specs.Sizes.{mails_count}
 use Rattle.pool_limits.specs.declared.size.TheConstants.{MAX_BYTES}
 use Rattle.pool_moves.specs.Answers.{answered}
-use Rattle.pool_moves.specs.Deeds.{at_rest, receives, schedd_acts, schedd_answer, startd_acts, startd_answer}
+use Rattle.pool_moves.specs.Deeds.{at_rest, receives, startd_acts, startd_answer}
 use Rattle.pool_moves.specs.Happens.{IsDone}
 use Rattle.pool_moves.specs.Limits.{IsTooLarge}
 use Rattle.pool_moves.specs.Masters.{gives}
-use Rattle.pool_moves.specs.Schedds.{ScheddLooks, ScheddReceives, ScheddTicks, after_look, after_receipt_of}
 use Rattle.pool_moves.specs.Startds.{IsReceivedStep, IsStartdStep}
 use Rattle.pool_state.specs.declared.state.PoolState.{PoolState}
 use Rattle.pool_tables.specs.declared.sent.Sent.{Sent}
 use Rattle.pool_view.specs.declared.run.EndReport.{EndReport}
-use Rattle.queue_tx.specs.Queues.{IsQueue}
-use Rattle.schedd_core.specs.Checks.{after_check}
-use Rattle.schedd_core.specs.Rows.{after_mail as schedd_mail}
-use Rattle.schedd_core.specs.Schedds.{ScheddValue}
-use Rattle.schedd_core.specs.Ticks.{IsTicked}
-use Rattle.schedd_core.specs.declared.answer.ScheddStep.{ScheddStep}
 use Rattle.startd_core.specs.Startds.{After, StartdValue, after_mail}
-use Rattle.pool_steps.proofs.MarkMoves.{mark_moves}
-
--- ---- the schedd
-pub ticks_too_large : (s : PoolState) (reading : ℕ) (v : ScheddValue) (step : ScheddStep) → IsTicked s.schedd s.queue reading v step → MAX_BYTES < s.counts.bytes + mails_count step.mails
-    → IsTooLarge (ScheddTicks (at_rest s) reading)
-ticks_too_large s reading v step ticked above = record {
-  new = schedd_acts v step [] (at_rest s);
-  answer = schedd_answer (at_rest s) step;
-  makes = record { schedd = v; step = step; ticked = ticked; pool = refl; answer = refl };
-  above = above;
-}
-
-pub looks_too_large : (s : PoolState) (job : JobId) (reading : ℕ) → IsQueue s.queue → MAX_BYTES < s.counts.bytes + mails_count (after_check s.schedd s.queue job reading).step.mails
-    → IsTooLarge (ScheddLooks (at_rest s) job reading)
-looks_too_large s job reading ordered above =
-    let a = after_check s.schedd s.queue job reading in
-    let moved = mark_moves s.queue a.schedd.checked a.schedd.passed ordered in
-    record {
-      new = after_look a moved.0 (at_rest s);
-      answer = schedd_answer (at_rest s) a.step;
-      makes = record { mark = moved.0; passes = moved.1; pool = refl; answer = refl };
-      above = above;
-    }
-
-pub receipt_too_large : (index : ℕ) (known : Bool) (reading : ℕ) (m : Option Sent) (s : PoolState)
-    → IsSomeAnd m (λ sent. MAX_BYTES < s.counts.bytes + mails_count (schedd_mail s.schedd s.queue sent.mail reading).step.mails)
-    → IsTooLarge (λ new r. IsSomeAnd m (λ sent. ScheddReceives (at_rest s) index sent.mail known reading new r))
-receipt_too_large index known reading (Some sent) s above =
-    let a = schedd_mail s.schedd s.queue sent.mail reading in
-    record {
-      new = after_receipt_of index sent.mail known a (at_rest s);
-      answer = schedd_answer (at_rest s) a.step;
-      makes = record { pool = refl; answer = refl };
-      above = above;
-    }
-receipt_too_large index known reading None s above = absurd above
 
 -- ---- startds
 pub startd_too_large : (machine : ℕ) (event : StartdValue → After) (ends : StartdValue → List EndReport) (o : Option StartdValue) (s : PoolState)

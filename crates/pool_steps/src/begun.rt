@@ -1,14 +1,13 @@
 // A transaction that is to be logged.
 
-ghost use Rattle.std.specs.Prelude.{◌≡◌, IfOk, Some, option_map};
-ghost use Rattle.pool_moves.specs.Answers.{answered, answer_with, pending_by, pending_tx};
+ghost use Rattle.std.specs.Prelude.{◌≡◌, IfOk, Some};
+ghost use Rattle.pool_moves.specs.Answers.{answered, pending_tx};
 ghost use Rattle.pool_event.specs.declared.answer.Answer.TheVariants as answer;
 
 use ad_value::{Copied, Memory};
 use pool_event::{Answer, Kept, Stepped};
 use pool_pending::{Pending, Unfinished};
 use queue_tx::Tx;
-use schedd_plan::JobPlan;
 use std::alloc::Global;
 use std::marker::Model;
 
@@ -77,35 +76,6 @@ impl Begun {
                 tx: answered,
             },
             kept: Kept::Append { number, tx: kept },
-        }
-    }
-}
-
-/// What a schedd plans, perhaps nothing, is to be logged under that number.
-pub(crate) fn begin_plan(
-    alloc: Global,
-    number: u64,
-    plan: Option<JobPlan>,
-) -> Result<Option<Begun>, Memory>
-    ensures { IfOk result (λ begun. begun ≡ pending_by number plan) }
-{
-    let Some(plan) = plan else {
-        return Ok(None);
-    };
-    let tx = plan.tx(alloc)?;
-    Ok(Some(Begun::new(alloc, number, tx, Unfinished::Plan { plan })?))
-}
-
-/// What was begun, perhaps nothing, is unfinished from now on.
-pub(crate) fn put_begun(pending: &mut Option<Pending>, begun: Option<Begun>) -> Stepped
-    ensures pending { pending.new ≡ begun }
-    ensures answer { result ≡ answered (answer_with begun) }
-{
-    match begun {
-        Some(begun) => begun.put(pending),
-        None => {
-            *pending = None;
-            nothing_asked()
         }
     }
 }

@@ -14,8 +14,8 @@ use std::collections::LinkedList;
 
 const MANY: usize = 0x4000_0000_0000_0000;
 
-/// One item for the end of a list. Memory too where either would have 2 to the 62 items.
-pub(crate) fn one_item<T: Drop>(
+// One item for the end of a list. Memory too where either would have 2 to the 62 items.
+fn one_item<T: Drop>(
     alloc: Global,
     list: &LinkedList<T, Global>,
     item: T,
@@ -31,18 +31,18 @@ pub(crate) fn one_item<T: Drop>(
     Ok(more)
 }
 
-/// An item, perhaps none, for the end of a list. Memory too where either would have 2 to the 62
-/// items.
-pub(crate) fn maybe_item(
+/// A job, perhaps none, for the end of a list. Memory too where either would have 2 to the 62
+/// items. Computes in O(1).
+pub fn maybe_job(
     alloc: Global,
     list: &LinkedList<JobId, Global>,
-    item: Option<JobId>,
+    job: Option<JobId>,
 ) -> Result<LinkedList<JobId, Global>, Memory>
-    ensures items { IfOk result (λ more. more ≡ jobs_in item) }
+    ensures items { IfOk result (λ more. more ≡ jobs_in job) }
     ensures places { IfOk result (HasPlaces list.now) }
 {
-    match item {
-        Some(item) => one_item(alloc, list, item),
+    match job {
+        Some(job) => one_item(alloc, list, job),
         None => no_item(alloc, list),
     }
 }
@@ -64,8 +64,8 @@ pub(crate) fn maybe_report(
 }
 
 /// The first jobs of a cluster for the end of a list. Memory too where either would have 2 to the
-/// 62 items.
-pub(crate) fn new_jobs(
+/// 62 items. Computes in O(jobs).
+pub fn new_jobs(
     alloc: Global,
     list: &LinkedList<JobId, Global>,
     cluster: u32,
@@ -108,7 +108,7 @@ fn no_item<T: Drop>(
 }
 
 /// Items come to the end of a list, without memory. Computes in O(1).
-pub(crate) fn join<T: Drop>(list: &mut LinkedList<T, Global>, more: LinkedList<T, Global>)
+pub fn join<T: Drop>(list: &mut LinkedList<T, Global>, more: LinkedList<T, Global>)
     requires { HasPlaces list.old more }
     ensures { list.new ≡ list.old ++ more }
 {

@@ -1,0 +1,4 @@
+pub mod Counted
+pub mod MarkMoves
+pub mod TooLarge
+pub mod UnfinishedDone
