@@ -1,6 +1,8 @@
 pub mod Causes
 pub mod Counting
+pub mod Keeping
 pub mod LiveOnes
+pub mod QueueNames
 pub mod Receiving
 pub mod Refusing
 pub mod Resting

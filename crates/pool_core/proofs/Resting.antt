@@ -8,12 +8,14 @@ use Rattle.pool_event.specs.declared.event.Event.{Event}
 use Rattle.pool_event.specs.declared.event.Event.TheVariants as event
 use Rattle.pool_mail.specs.declared.mail.Mail.{Mail}
 use Rattle.pool_mail.specs.declared.matching.Match.{Match}
+use Rattle.pool_outer.specs.declared.gate.Daemon.{Daemon}
 use Rattle.pool_outer.specs.declared.gate.Daemon.TheVariants.{Schedd, Startd, Matchmaker}
 use Rattle.pool_state.specs.declared.opening.Opening.{Opening}
 use Rattle.pool_state.specs.declared.state.PoolState.{PoolState}
 use Rattle.pool_state.specs.Judging.{IsFairOf, IsLive, IsSomeLive, judged_in}
 use Rattle.pool_state.specs.Openings.{IsOpenedBy}
 use Rattle.pool_state.specs.PoolViews.{IsViewOf}
+use Rattle.pool_state.specs.Readings.{IsDue}
 use Rattle.pool_state.specs.Refusals.{IsAdRefusal, IsAdRefusalBy, IsEventRefusal, IsRefusal, Refusal, Then, closed_refusal, events_refusal, first_of, matchmaker_refusal, receive_refusal}
 use Rattle.pool_tables.specs.declared.sent.Sent.{Sent}
 use Rattle.pool_view.specs.declared.view.View.{View}
@@ -116,6 +118,11 @@ opened_rest o = record {
   jobs = o.jobs;
   bytes = o.bytes;
 }
+
+pub due_back : (who : Daemon) (s : PoolState) (reading : ℕ) → IsDue who (at_rest s) reading → IsDue who s reading
+due_back Schedd s reading h = h
+due_back (Startd machine) s reading h = h
+due_back Matchmaker s reading h = h
 
 pub view_rest : {read : List ℕ → Option ClaimId} {s : PoolState} {view : View} → IsViewOf read s view → IsViewOf read (at_rest s) view
 view_rest v = record {

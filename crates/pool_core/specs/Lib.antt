@@ -1,3 +1,4 @@
+pub mod KeptPools
 pub mod Made
 pub mod Pushed
 pub mod Refused

@@ -4,6 +4,7 @@
 mod daemons;
 mod events;
 mod happening;
+mod names;
 mod pool;
 
 pub use pool::Pool;

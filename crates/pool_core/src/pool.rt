@@ -1,5 +1,6 @@
 ghost use Rattle.std.specs.Prelude.{◌≡◌, ◌≢◌, ◌⊎◌, ℕ, List, Option, false, true, None, Some, IfErr, IfOk, IfSome, IsErrOf, IsSome, OnErr, OnOk};
 ghost use Rattle.claim_id.specs.declared.numbers.ClaimId.{ClaimId};
+ghost use Rattle.pool_core.specs.KeptPools.{IsKeptPool};
 ghost use Rattle.pool_core.specs.Refused.{IsRefused};
 ghost use Rattle.pool_machines.specs.Slots.{slot_at};
 ghost use Rattle.pool_moves.specs.Deeds.{rested};
@@ -7,6 +8,7 @@ ghost use Rattle.pool_moves.specs.Given.{IsGiven};
 ghost use Rattle.pool_moves.specs.Happens.{Reacts};
 ghost use Rattle.pool_moves.specs.Limits.{IsWithin};
 ghost use Rattle.pool_past.specs.Clusters.{IsNextCluster};
+ghost use Rattle.pool_safety.specs.Histories.{HasView};
 ghost use Rattle.pool_state.specs.Openings.{CanOpen, IsOpenedBy};
 ghost use Rattle.pool_state.specs.PoolViews.{IsViewOf};
 ghost use Rattle.pool_state.specs.Readings.{AreWanted, IsCheckDue, IsDue, IsLook, ad_of_slot, boot_of, hangs_on_slot, is_schedd_up};
@@ -15,10 +17,14 @@ ghost use Rattle.pool_tables.specs.declared.refusal.MailError.TheVariants as mai
 ghost use Rattle.pool_tables.specs.declared.refusal.StepError.TheVariants as error;
 ghost use Rattle.pool_tables.specs.DaemonTables.{state_of};
 ghost use Rattle.pool_tables.specs.MailLists.{IsMailTo, IsNextMail, IsOfPool, mail_error};
-ghost use Rattle.schedd_core.specs.DueChecks.{IsFirstDue, IsPassed};
+ghost use Rattle.pool_view.specs.AbstractPool.{AbstractPool};
+ghost use Rattle.pool_view.specs.Safe.{Safe};
+ghost use Rattle.pool_view.specs.Views.{pool_of};
+ghost use Rattle.schedd_core.specs.DueChecks.{IsFirstDue};
 ghost use Rattle.schedd_core.specs.Reopening.{IsReader};
 
 use crate::happening;
+use crate::names::go_over_names;
 use ad_tree::Ad;
 use ad_value::Memory;
 use claim_id::{JobId, SlotId};
@@ -32,7 +38,8 @@ use std::alloc::Global;
 use std::marker::Model;
 
 /// A pool: its daemons, all mails ever sent, the queue as logged, and what else events are accepted
-/// by. Contracts see it as a `PoolState` at rest.
+/// by. Contracts see it as a `PoolState` at rest. Every pool is kept to a protocol of its daemons,
+/// so what it shows is safe (`Pool::safety`).
 pub struct Pool {
     state: PoolState,
 }
@@ -54,15 +61,21 @@ impl Model for Pool {
     ghost coded = { Prim.hlevel (codes, of_state.the_row.coded) };
 
     ghost view = { λ p. at_rest p.state };
+
+    ghost use Rattle.pool_core.specs.KeptPools.{IsKeptPool};
+
+    ghost invariant = { λ p. IsKeptPool (at_rest p.state) };
 }
 
 impl Pool {
     /// The pool that opens with these parts. Computes in O(slots + machines * crashes + repeats *
-    /// log repeats + orders + jobs * log jobs + size of the queue's ads).
+    /// log repeats + orders + jobs * log jobs + size of the queue's ads): each ad of the queue is
+    /// looked at, and tells that its names differ.
     pub fn open(alloc: Global, opening: Opening) -> Result<Pool, Memory>
         requires { CanOpen opening }
         ensures { IfOk result (IsOpenedBy opening) }
     {
+        go_over_names(&opening.queue);
         let state = PoolState::open(alloc, opening)?;
         Ok(Pool { state })
     }
@@ -82,6 +95,16 @@ impl Pool {
         ensures same { OnErr result (self.new ≡ self.old) }
     {
         happening::step(alloc, &mut self.state, event)
+    }
+
+    /// What every pool is: kept to a protocol of its daemons, with few clusters used. It shows an
+    /// abstract pool, and whichever it shows is safe. Computes in O(1).
+    pub fn safety(&self)
+        ensures kept { IsKeptPool self.now }
+        ensures shown { (v : AbstractPool) × HasView self.now v }
+        ensures safe { (v : AbstractPool) → HasView self.now v → Safe v }
+    {
+        let _ = &self.state;
     }
 
     /// How many events it has accepted. Computes in O(1), without memory.
@@ -120,8 +143,7 @@ impl Pool {
     /// reading. True too where there is no memory to tell, which comes only where that hangs on the
     /// Start of a slot. Computes as the daemon's `due`.
     pub fn due(&self, alloc: Global, who: Daemon, reading: u64) -> bool
-        ensures due { IsPassed self.now.queue self.now.schedd
-            → IsDue who self.now reading → result ≡ true }
+        ensures due { IsDue who self.now reading → result ≡ true }
         ensures only { result ≡ true
             → IsDue who self.now reading ⊎ (hangs_on_slot who self.now reading ≡ true) }
     {
@@ -132,7 +154,7 @@ impl Pool {
     /// or the schedd is down. Computes as the schedd's `first_check`.
     pub fn first_check(&self, reading: u64) -> Option<JobId>
         ensures due { IfSome result (λ job. IsCheckDue job self.now reading) }
-        ensures first { IsPassed self.now.queue self.now.schedd → is_schedd_up self.now ≡ true
+        ensures first { is_schedd_up self.now ≡ true
             → IsFirstDue self.now.schedd self.now.queue reading result }
         ensures down { is_schedd_up self.now ≡ false → result ≡ None }
     {
@@ -178,11 +200,12 @@ impl Pool {
         self.state.slot_ad(alloc, slot)
     }
 
-    /// The abstract pool that it stands for. Computes in O(jobs * (log jobs + jobs left) + slots +
-    /// reports), and O(attributes) for each job.
+    /// The abstract pool that it stands for, which is safe. Computes in O(jobs * (log jobs + jobs
+    /// left) + slots + reports), and O(attributes) for each job.
     pub fn view(&self, alloc: Global) -> Result<View, Memory>
-        ensures { IfOk result (λ view. (read : List ℕ → Option ClaimId) → IsReader read
+        ensures view { IfOk result (λ view. (read : List ℕ → Option ClaimId) → IsReader read
             → IsViewOf read self.now view) }
+        ensures safe { IfOk result (λ view. Safe (pool_of view)) }
     {
         self.state.view(alloc)
     }

@@ -1,0 +1,62 @@
+-- A pool that opens is kept to a protocol, an event keeps it so, and what it shows is safe.
+use Rattle.std.proofs.Common.{◌≡◌, ℕ, List, Option, None, Result, Ok, Err, sym, subst}
+use Rattle.std.specs.Prelude.{IfOk, OnErr, OnOk}
+use Rattle.claim_id.specs.declared.numbers.ClaimId.{ClaimId}
+use Rattle.pool_core.specs.KeptPools.{IsKeptPool}
+use Rattle.pool_event.specs.declared.answer.Stepped.{Stepped}
+use Rattle.pool_event.specs.declared.event.Event.{Event}
+use Rattle.pool_links.proofs.Viewing.{linked_shows, shown_safe}
+use Rattle.pool_moves.specs.Given.{IsGiven}
+use Rattle.pool_moves.specs.Happens.{Reacts}
+use Rattle.pool_protocol.specs.ProtocolMove.{protocol_after_all}
+use Rattle.pool_safety.proofs.PoolEvents.{event_keeps}
+use Rattle.pool_safety.proofs.PoolOpening.{opening_is_kept}
+use Rattle.pool_safety.proofs.PoolViews.{view_shows}
+use Rattle.pool_safety.proofs.Readers.{some_reads}
+use Rattle.pool_safety.proofs.ScheddFew.{event_few, opening_few}
+use Rattle.pool_safety.specs.Histories.{HasView}
+use Rattle.pool_safety.specs.Kept.{GoesOn}
+use Rattle.pool_safety.specs.Parts.{parts_of}
+use Rattle.pool_state.specs.Openings.{CanOpen, IsOpenedBy}
+use Rattle.pool_state.specs.PoolViews.{IsViewOf}
+use Rattle.pool_state.specs.Refusals.{IsRefusal}
+use Rattle.pool_state.specs.declared.opening.Opening.{Opening}
+use Rattle.pool_state.specs.declared.state.PoolState.{PoolState}
+use Rattle.pool_tables.specs.declared.refusal.StepError.{StepError}
+use Rattle.pool_view.specs.AbstractPool.{AbstractPool}
+use Rattle.pool_view.specs.Safe.{Safe}
+use Rattle.pool_view.specs.Views.{pool_of}
+use Rattle.pool_view.specs.declared.view.View.{View}
+use Rattle.schedd_core.specs.Reopening.{IsReader}
+use Rattle.schedd_core.specs.ScheddParts.{IsOrdered}
+
+-- ---- a pool opens
+pub opened_kept : (o : Opening) (s : PoolState) → CanOpen o → IsOrdered o.queue → IsOpenedBy o s → IsKeptPool s
+opened_kept o s can queue opened =
+    let k = opening_is_kept o s can queue opened in
+    record { protocol = k.0; kept = k.1; few = opening_few o s can opened }
+
+-- ---- an event happens, or is refused
+event_kept : (e : Event) (s new : PoolState) (r : Stepped) → IsKeptPool s → IsGiven e s → IsRefusal e s None → Reacts s e r new → IsKeptPool new
+event_kept e s new r k given free reacts =
+    let on : GoesOn k.protocol new = event_keeps some_reads.0 some_reads.1 k.protocol s k.kept k.few e r new given free reacts in
+    record {
+      protocol = protocol_after_all k.protocol on.moves;
+      kept = on.kept;
+      few = event_few some_reads.0 some_reads.1 k.protocol s new e r k.kept k.few reacts;
+    }
+
+pub step_kept : (e : Event) (s new : PoolState) (result : Result Stepped StepError) → IsKeptPool s → IsGiven e s
+    → OnOk result (IsRefusal e s None) → IfOk result (λ r. Reacts s e r new) → OnErr result (new ≡ s) → IsKeptPool new
+step_kept e s new (Ok r) k given free reacts same = event_kept e s new r k given free reacts
+step_kept e s new (Err x) k given free reacts same = subst IsKeptPool (sym same) k
+
+-- ---- what it shows
+pub kept_shows : (s : PoolState) → IsKeptPool s → (v : AbstractPool) × HasView s v
+kept_shows s k = (k.protocol.pool, linked_shows k.protocol (parts_of s) k.kept.linked)
+
+pub kept_safe : (s : PoolState) (v : AbstractPool) → IsKeptPool s → HasView s v → Safe v
+kept_safe s v k shows = shown_safe k.protocol (parts_of s) v k.kept.linked shows
+
+pub view_safe : (s : PoolState) (view : View) → IsKeptPool s → ((read : List ℕ → Option ClaimId) → IsReader read → IsViewOf read s view) → Safe (pool_of view)
+view_safe s view k of = kept_safe s (pool_of view) k (view_shows some_reads.0 some_reads.1 k.protocol s view k.kept (of some_reads.0 some_reads.1))
