@@ -9,7 +9,7 @@ use Rattle.pool_tables.specs.declared.refusal.MailError.{MailError}
 use Rattle.pool_tables.specs.declared.refusal.MailError.TheVariants.{Memory}
 use Rattle.pool_tables.specs.DaemonTables.{state_of}
 use Rattle.pool_tables.specs.MailLists.{IsMailTo, IsNextMail, IsOfPool, mail_error}
-use Rattle.schedd_core.specs.DueChecks.{IsFirstDue, IsPassed}
+use Rattle.schedd_core.specs.DueChecks.{IsFirstDue}
 
 -- the mail, or why there is none
 pub record IsMailHere (who : Daemon) (index : ℕ) (s : PoolState) (answer : Result Mail MailError)
@@ -22,14 +22,13 @@ IsNextHere who from s answer = IsOfPool who s.mails → IsNextMail who from s.ma
 
 -- true where something is due, and only there or where that hangs on a slot's Start
 pub record IsDueHere (who : Daemon) (reading : ℕ) (s : PoolState) (answer : Bool) : Type 0 where
-  pub due : IsPassed s.queue s.schedd → IsDue who s reading → answer ≡ true
+  pub due : IsDue who s reading → answer ≡ true
   pub only : answer ≡ true → IsDue who s reading ⊎ (hangs_on_slot who s reading ≡ true)
 
 -- the job at which the schedd, which is up, is to look first
 pub record IsCheckHere (reading : ℕ) (s : PoolState) (answer : Option JobId) : Type 0 where
   pub due : IfSome answer (λ job. IsCheckDue job s reading)
-  pub first : IsPassed s.queue s.schedd → is_schedd_up s ≡ true
-      → IsFirstDue s.schedd s.queue reading answer
+  pub first : is_schedd_up s ≡ true → IsFirstDue s.schedd s.queue reading answer
 
 abbrev pub IsBootHere : Daemon → PoolState → ℕ → Type 0
 IsBootHere who s answer = answer ≡ boot_of (state_of who s.daemons)
