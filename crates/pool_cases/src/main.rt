@@ -1,0 +1,18 @@
+//! Answers cases of a pool: a case a line on standard input, an answer a line on standard output.
+//! README.md says what each case is, and what it answers.
+#![tactic(auto)]
+
+mod answers;
+
+use crate::answers::answer_all;
+use anyhow::Result;
+use std::io;
+
+fn main(rt: HostRuntime) -> Result<()> {
+    let alloc = rt.alloc();
+    let input = io::read_to_string(alloc, rt.reader())?;
+    let mut answers = String::new(alloc);
+    answer_all(alloc, input.as_str(), &mut answers)?;
+    print!(rt; "{answers}")?;
+    Ok(())
+}
