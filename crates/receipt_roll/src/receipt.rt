@@ -1,11 +1,13 @@
-ghost use Rattle.std.specs.Prelude.{◌≡◌, ◌<◌};
+ghost use Rattle.std.specs.Prelude.{◌≡◌, ◌<◌, Ok};
 ghost use Rattle.receipt_roll.specs.declared.roll.TheConstants.{MAX_ITEMS};
 
 use crate::scribe::Witness;
+use ad_value::{Copied, Memory};
+use std::alloc::Global;
 use std::marker::Model;
 
 /// A token that says which roll it is of. Contracts see it as a `RollMark`. It takes no bytes, and
-/// no program can compare two.
+/// no program can compare two. Its copy never fails, and computes in O(1), without memory.
 pub struct Mark<T> {
     pub(crate) witness: Witness<T>,
 }
@@ -22,6 +24,16 @@ impl<T> Model for Mark<T> {
     ghost Value = { RollMark };
 
     ghost view = { λ m. m.witness.mark };
+}
+
+impl<T> Copied for Mark<T> {
+    fn copy(&self, _: Global) -> Result<Mark<T>, Memory>
+        ensures { result ≡ Ok self.now }
+    {
+        Ok(Mark {
+            witness: self.witness.again(),
+        })
+    }
 }
 
 /// Proof that an item stands on a roll at a number, whatever thread holds it. Contracts see it as a

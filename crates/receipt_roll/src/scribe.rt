@@ -57,6 +57,17 @@ impl<T> Model for Witness<T> {
     ghost invariant = { λ w. w.seen.book ≡ w.first.book };
 }
 
+impl<T> Witness<T> {
+    /// One who has seen the same.
+    pub fn again(&self) -> Witness<T>
+        ensures { result ≡ self.now }
+    {
+        let first = self.first.again();
+        let seen = self.seen.again();
+        Witness { first, seen }
+    }
+}
+
 impl<T> Scribe<T> {
     /// The scribe of a list of its own, which is empty.
     pub fn new() -> Scribe<T>
