@@ -12,7 +12,8 @@ use pool_mail::How;
 use slot_state::{Cue, Pair, next};
 use std::alloc::Global;
 
-/// A slot of the machine: what never changes, and how it stands.
+/// A slot of the machine: what never changes, and how it stands. Its copy computes in O(bytes of
+/// its texts, and a byte for each attribute of its ads), with memory, and shares the attributes.
 pub struct Slot {
     pub id: SlotId,
     /// As `slot1@m1`.
@@ -75,6 +76,17 @@ impl Copied for SlotState {
             held: copied_held(alloc, &self.held)?,
             rival: copied_rival(alloc, &self.rival)?,
             told: self.told,
+        })
+    }
+}
+
+impl Copied for Slot {
+    fn copy(&self, alloc: Global) -> Result<Slot, Memory> {
+        Ok(Slot {
+            id: self.id,
+            name: self.name.copy(alloc)?,
+            ad: self.ad.copy(alloc)?,
+            state: self.state.copy(alloc)?,
         })
     }
 }
