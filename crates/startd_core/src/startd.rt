@@ -15,7 +15,7 @@ use crate::prepared::{PreparedStartd, SlotsChange, StartdChange};
 use crate::ticks::{Ticks, boot_slots, tick_slots};
 use ad_eval::Judged;
 use ad_tree::Ad;
-use ad_value::{Memory, Text};
+use ad_value::{Copied, Memory, Text};
 use claim_id::SlotId;
 use pool_mail::{Ending, Mail, Settings};
 use startd_slot::{Reaction, Slot, SlotState, claim_of, is_judged, react, react_to_end};
@@ -23,7 +23,8 @@ use std::alloc::Global;
 use std::marker::Model;
 
 /// A machine's startd: its slots, in order, and what they keep. Contracts see it as a
-/// `StartdValue`, of which `IsSound` always holds.
+/// `StartdValue`, of which `IsSound` always holds. Its copy computes in O(slots, the bytes of their
+/// texts, and a byte for each attribute of their ads), with memory, and shares the attributes.
 pub struct Startd {
     machine: Machine,
     settings: Settings,
@@ -67,6 +68,20 @@ impl Model for Startd {
 
     ghost invariant = { λ s. IsSound (startd_value s.machine s.settings s.offers s.slots.items
         s.ticked s.restless) };
+}
+
+impl Copied for Startd {
+    fn copy(&self, alloc: Global) -> Result<Startd, Memory> {
+        let slots = copy_slots(alloc, &self.slots)?;
+        Ok(Startd {
+            machine: self.machine,
+            settings: self.settings,
+            offers: self.offers,
+            slots,
+            ticked: self.ticked,
+            restless: self.restless,
+        })
+    }
 }
 
 impl Startd {
@@ -526,6 +541,16 @@ impl Startd {
         self.restless = restless;
         step
     }
+}
+
+fn copy_slots(alloc: Global, slots: &[Slot]) -> Result<Vec<Slot>, Memory>
+    ensures { IfOk result (λ copied. copied.items ≡ slots.now) }
+{
+    let mut copied = Vec::new(alloc);
+    for slot in slots {
+        copied.push(slot.copy(alloc)?)?;
+    }
+    Ok(copied)
 }
 
 // A mail that speaks of a slot which the machine doesn't have.
