@@ -10,7 +10,7 @@ use crate::claimed::first_claimed;
 use crate::runs::{first_left, has_run_of};
 use crate::told::told_slots;
 use ad_tree::Ad;
-use ad_value::Memory;
+use ad_value::{Copied, Memory};
 use claim_id::{RunNo, SlotId};
 use pool_mail::{Ending, SlotAdList};
 use receipt_roll::Receipt;
@@ -19,7 +19,9 @@ use startd_slot::Slot;
 use std::alloc::Global;
 use std::marker::Model;
 
-/// The startds of a pool, by machine. Contracts see the list of `StartdValue`s.
+/// The startds of a pool, by machine. Contracts see the list of `StartdValue`s. A copy computes in
+/// O(slots, the bytes of their texts, and a byte for each attribute of their ads), with memory, and
+/// shares the attributes.
 pub struct Machines {
     list: Vec<Startd>,
 }
@@ -41,6 +43,13 @@ impl Model for Machines {
     ghost coded = { Prim.hlevel (codes, of_startd.the_row.coded) };
 
     ghost view = { λ m. m.list.items };
+}
+
+impl Copied for Machines {
+    fn copy(&self, alloc: Global) -> Result<Machines, Memory> {
+        let list = copy_startds(alloc, &self.list)?;
+        Ok(Machines { list })
+    }
 }
 
 impl Machines {
@@ -135,6 +144,16 @@ impl Machines {
     {
         told_slots(alloc, self.list.as_slice(), at)
     }
+}
+
+fn copy_startds(alloc: Global, startds: &[Startd]) -> Result<Vec<Startd>, Memory>
+    ensures { IfOk result (λ copied. copied.items ≡ startds.now) }
+{
+    let mut copied = Vec::new(alloc);
+    for startd in startds {
+        copied.push(startd.copy(alloc)?)?;
+    }
+    Ok(copied)
 }
 
 // The slot of that number, counted from 1.
