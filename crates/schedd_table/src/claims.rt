@@ -4,7 +4,9 @@ ghost use Rattle.std.specs.Prelude.{◌≡◌};
 ghost use Rattle.schedd_table.specs.KeptClaims.{is_active, is_claim, names_job, place_of_claim, engages, with_stage, with_job, claims_without};
 
 use ad_tree::Ad;
+use ad_value::{Copied, Memory};
 use claim_id::{ClaimId, ClaimNo, JobId};
+use std::alloc::Global;
 
 /// How far a claim has come.
 #[derive(Clone, Copy, Debug, PartialEq, Eq)]
@@ -36,6 +38,18 @@ impl Drop for KeptClaim {
             stage: _,
             ad: _ad,
         } = self;
+    }
+}
+
+impl Copied for KeptClaim {
+    /// An equal claim, whose ad shares its attributes. Computes in O(attributes).
+    fn copy(&self, alloc: Global) -> Result<KeptClaim, Memory> {
+        Ok(KeptClaim {
+            claim: self.claim,
+            job: self.job,
+            stage: self.stage,
+            ad: self.ad.copy(alloc)?,
+        })
     }
 }
 
