@@ -9,8 +9,10 @@ ghost use Rattle.schedd_core.specs.DueChecks.{was_checked};
 ghost use Rattle.schedd_core.specs.Looks.{FirstLook, IsOldest, SetsTimes, look_of};
 
 use crate::new_look::NewLook;
+use ad_value::{Copied, Memory};
 use ordered_map::{NewEntry, OrderedMap};
 use queue_tx::Key;
+use std::alloc::Global;
 use std::cmp::Ordering;
 use std::marker::Model;
 use std::ops::Bound;
@@ -74,12 +76,38 @@ impl Ord for Look {
 #[derive(Clone, Copy, Debug)]
 pub(crate) struct Noted;
 
+impl Copied for Noted {
+    fn copy(&self, _: Global) -> Result<Noted, Memory> {
+        Ok(Noted)
+    }
+}
+
+/// When a job was looked at, a reading. Contracts see the number.
+#[derive(Drop)]
+pub(crate) struct LookTime {
+    pub(crate) at: u64,
+}
+
+impl Model for LookTime {
+    ghost use Rattle.std.specs.Prelude.{ℕ};
+
+    ghost Value = { ℕ };
+
+    ghost view = { λ t. t.at };
+}
+
+impl Copied for LookTime {
+    fn copy(&self, _: Global) -> Result<LookTime, Memory> {
+        Ok(LookTime { at: self.at })
+    }
+}
+
 pub(crate) type Times = OrderedMap<Look, Noted>;
 
 /// The last look at each job that was looked at. Contracts see the times by key.
 #[derive(Drop)]
 pub(crate) struct Looks {
-    by_job: OrderedMap<Key, u64>,
+    by_job: OrderedMap<Key, LookTime>,
     by_time: Times,
 }
 
@@ -110,7 +138,8 @@ impl Looks {
     pub(crate) fn get(&self, key: &Key) -> Option<&u64>
         ensures { option_copied result ≡ lookup (same_key key.now) self.now }
     {
-        self.by_job.get(key)
+        let time = self.by_job.get(key)?;
+        Some(&time.at)
     }
 
     /// Whether a job was looked at.
@@ -157,12 +186,25 @@ impl Looks {
     }
 }
 
+impl Copied for Looks {
+    /// Computes in O(jobs looked at).
+    fn copy(&self, alloc: Global) -> Result<Looks, Memory> {
+        Ok(Looks {
+            by_job: self.by_job.copy(alloc)?,
+            by_time: self.by_time.copy(alloc)?,
+        })
+    }
+}
+
 // The last look at a job.
-fn last_look(jobs: &OrderedMap<Key, u64>, key: &Key) -> Option<Look>
+fn last_look(jobs: &OrderedMap<Key, LookTime>, key: &Key) -> Option<Look>
     ensures { result ≡ look_of key.now (lookup (same_key key.now) jobs.now) }
 {
-    let at = jobs.get(key)?;
-    Some(Look { at: *at, key: *key })
+    let time = jobs.get(key)?;
+    Some(Look {
+        at: time.at,
+        key: *key,
+    })
 }
 
 // A look is no more one of the list.

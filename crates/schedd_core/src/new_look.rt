@@ -1,6 +1,6 @@
 ghost use Rattle.std.specs.Prelude.{◌≡◌, IfOk};
 
-use crate::looks::{Look, Noted};
+use crate::looks::{Look, LookTime, Noted};
 use ad_value::Memory;
 use ordered_map::NewEntry;
 use queue_tx::Key;
@@ -10,7 +10,7 @@ use std::marker::Model;
 /// A look at a job that is to come to the others, with its memory. Contracts see its job and time.
 #[derive(Drop)]
 pub(crate) struct NewLook {
-    pub(crate) entry: NewEntry<Key, u64>,
+    pub(crate) entry: NewEntry<Key, LookTime>,
     pub(crate) time: NewEntry<Look, Noted>,
 }
 
@@ -30,7 +30,7 @@ impl NewLook {
     pub(crate) fn new(alloc: Global, key: Key, at: u64) -> Result<NewLook, Memory>
         ensures { IfOk result (λ look. look ≡ (key, at)) }
     {
-        let entry = NewEntry::new(alloc, key, at)?;
+        let entry = NewEntry::new(alloc, key, LookTime { at })?;
         let time = NewEntry::new(alloc, Look { at, key }, Noted)?;
         Ok(NewLook { entry, time })
     }

@@ -109,6 +109,34 @@ impl Model for Schedd {
     } };
 }
 
+impl Copied for Schedd {
+    /// An equal schedd, whose claims' ads share their attributes. Computes in O(claims + runs +
+    /// jobs left + jobs looked at), and a byte for each attribute of the claims' ads.
+    fn copy(&self, alloc: Global) -> Result<Schedd, Memory> {
+        Ok(Schedd {
+            settings: self.settings,
+            next_run: self.next_run,
+            left: Vec::from_slice(alloc, self.left.as_slice())?,
+            claims: copy_items(alloc, self.claims.as_slice())?,
+            runs: Vec::from_slice(alloc, self.runs.as_slice())?,
+            checked: self.checked.copy(alloc)?,
+            passed: self.passed,
+            waiting: self.waiting,
+        })
+    }
+}
+
+// A list of equal items.
+fn copy_items<T: Copied>(alloc: Global, items: &[T]) -> Result<Vec<T>, Memory>
+    ensures { IfOk result (λ copied. copied.items ≡ items.now) }
+{
+    let mut list = Vec::new(alloc);
+    for item in items {
+        list.push(item.copy(alloc)?)?;
+    }
+    Ok(list)
+}
+
 impl Schedd {
     /// The schedd of a pool that opens with a queue. Computes in O(jobs under a claim times log
     /// jobs).
