@@ -3,12 +3,13 @@
 ghost use Rattle.std.specs.Prelude.{◌≡◌, IfOk};
 ghost use Rattle.pool_tables.specs.DaemonTables.{first_daemons, state_of, is_up, first_down, daemon_refusal, crash_refusal, reopen_refusal, crashed, reopened, with_state, set_state};
 
+use crate::copies::copy_list;
 use crate::refusal::StepError;
 use crate::states::{
     DaemonState, crash_refusal_at, first_startd_down, first_startds, first_state,
     reopen_refusal_at, set_startd, state_refusal,
 };
-use ad_value::Memory;
+use ad_value::{Copied, Memory};
 use pool_outer::Daemon;
 use std::alloc::Global;
 use std::marker::Model;
@@ -38,6 +39,17 @@ impl Model for Daemons {
     } };
 
     ghost invariant = { λ d. length d.startds.items < 2 ^ 16 };
+}
+
+impl Copied for Daemons {
+    /// Equal daemons. Computes in O(machines).
+    fn copy(&self, alloc: Global) -> Result<Daemons, Memory> {
+        Ok(Daemons {
+            schedd: self.schedd,
+            startds: copy_list(alloc, &self.startds, 0)?,
+            matchmaker: self.matchmaker,
+        })
+    }
 }
 
 impl Daemons {

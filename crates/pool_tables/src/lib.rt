@@ -2,6 +2,7 @@
 //! of the input. What each table refuses of an event.
 #![tactic(auto)]
 
+mod copies;
 mod daemons;
 mod links;
 mod mails;

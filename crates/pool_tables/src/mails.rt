@@ -4,6 +4,7 @@ ghost use Rattle.pool_tables.specs.declared.refusal.MailError.TheVariants as err
 ghost use Rattle.pool_tables.specs.MailLists.{IsMailTo, IsNextMail, IsOfPool, again, mail_error, mail_refusal, may_receive, after_receipt, with_mail, with_mails};
 ghost use Rattle.pool_tables.specs.Repeats.{times_in, times_of};
 
+use crate::copies::{copy_list, copy_numbers};
 use crate::links::{box_of, empty_boxes, last_in, next_in, set_last};
 use crate::refusal::{MailError, StepError};
 use crate::repeats::{Repeats, count_repeats, times_of};
@@ -59,6 +60,24 @@ impl Model for Mails {
     ghost use Rattle.pool_tables.specs.Kept.{AreMails};
 
     ghost invariant = { λ m. AreMails m };
+}
+
+impl Copied for Mails {
+    /// Equal mails, with room for as many more; their ads share their attributes. Computes in
+    /// O(machines + repeats + room + bytes of the mails' texts + attributes of their ads), a byte
+    /// for each attribute.
+    fn copy(&self, alloc: Global) -> Result<Mails, Memory> {
+        let before = copy_numbers(alloc, &self.before, self.spare)?;
+        let last = copy_numbers(alloc, &self.last, 0)?;
+        let repeats = self.repeats.copy(alloc)?;
+        Ok(Mails {
+            sent: copy_list(alloc, &self.sent, self.spare)?,
+            before,
+            last,
+            repeats,
+            spare: self.spare,
+        })
+    }
 }
 
 impl Mails {

@@ -4,9 +4,10 @@ ghost use Rattle.std.specs.Prelude.{◌≡◌, map, position, IfOk};
 ghost use Rattle.std.specs.Option.{option_copied};
 ghost use Rattle.pool_tables.specs.OrderTables.{is_due_for, is_open, is_unreceived, given_by, not_given, order_mail, same_verb};
 
+use crate::copies::copy_list;
 use crate::mails::Mails;
 use crate::sent::Sent;
-use ad_value::Memory;
+use ad_value::{Copied, Memory};
 use claim_id::{JobId, Verb, Wish};
 use pool_mail::Mail;
 use std::alloc::Global;
@@ -17,6 +18,13 @@ use std::marker::Model;
 pub struct GivenWish {
     pub wish: Wish,
     pub mail: Option<u64>,
+}
+
+impl Copied for GivenWish {
+    /// An equal value, without memory. Computes in O(1).
+    fn copy(&self, _: Global) -> Result<GivenWish, Memory> {
+        Ok(*self)
+    }
 }
 
 /// The orders of the input. Contracts see the list of `GivenWish`es.
@@ -32,6 +40,15 @@ impl Model for Orders {
     ghost Value = { List GivenWish };
 
     ghost view = { λ o. o.list.items };
+}
+
+impl Copied for Orders {
+    /// Equal orders. Computes in O(orders).
+    fn copy(&self, alloc: Global) -> Result<Orders, Memory> {
+        Ok(Orders {
+            list: copy_list(alloc, &self.list, 0)?,
+        })
+    }
 }
 
 impl Orders {

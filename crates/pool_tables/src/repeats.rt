@@ -3,12 +3,33 @@
 ghost use Rattle.std.specs.Prelude.{◌≡◌, ◌+◌, ℕ, IfOk, OnOk};
 ghost use Rattle.pool_tables.specs.Repeats.{AreCounts, is_number, times_in, times_of};
 
-use ad_value::Memory;
+use ad_value::{Copied, Memory};
 use ordered_map::{NewEntry, OrderedMap};
 use std::alloc::Global;
+use std::marker::Model;
 
 /// How often more than once a mail may be received, by its number.
-pub(crate) type Repeats = OrderedMap<u64, u64>;
+pub(crate) type Repeats = OrderedMap<u64, Times>;
+
+/// How often. Contracts see the number.
+#[derive(Drop)]
+pub(crate) struct Times {
+    count: u64,
+}
+
+impl Model for Times {
+    ghost use Rattle.std.specs.Prelude.{ℕ};
+
+    ghost Value = { ℕ };
+
+    ghost view = { λ t. t.count };
+}
+
+impl Copied for Times {
+    fn copy(&self, _: Global) -> Result<Times, Memory> {
+        Ok(Times { count: self.count })
+    }
+}
 
 /// One time for each number. Memory too where a count is at its end.
 #[tactic(auto, using(crate::proofs::Counting::counted))]
@@ -37,7 +58,8 @@ fn count_one(alloc: Global, repeats: &mut Repeats, number: u64) -> Result<(), Me
     if times >= u64::MAX - 2 {
         return Err(Memory);
     }
-    let entry = NewEntry::new(alloc, number, times + 1)?;
+    let more = Times { count: times + 1 };
+    let entry = NewEntry::new(alloc, number, more)?;
     repeats.put(entry);
     Ok(())
 }
@@ -47,7 +69,7 @@ pub(crate) fn times_of(repeats: &Repeats, number: u64) -> u64
     ensures { result ≡ times_of number repeats.now }
 {
     match repeats.get(&number) {
-        Some(times) => *times,
+        Some(times) => times.count,
         None => 0,
     }
 }

@@ -1,8 +1,10 @@
 ghost use Rattle.std.specs.Prelude.{◌≡◌, ◌+◌, ◌<◌, ◌≤◌, ◌^◌, ◌∷◌, ◌++◌, [], IfSome, slice_get, vec_capacity, vec_len};
 ghost use Rattle.pool_tables.specs.MailLists.{with_received};
 
+use ad_value::{Copied, Memory};
 use pool_mail::Mail;
 use pool_outer::Daemon;
+use std::alloc::Global;
 
 /// A mail that was sent.
 pub struct Sent {
@@ -20,6 +22,18 @@ impl Drop for Sent {
             to: _,
             received: _,
         } = self;
+    }
+}
+
+impl Copied for Sent {
+    /// An equal value, whose mail shares its ad's attributes. Computes in O(bytes of the mail's
+    /// texts + attributes), a byte for each attribute.
+    fn copy(&self, alloc: Global) -> Result<Sent, Memory> {
+        Ok(Sent {
+            mail: self.mail.copy(alloc)?,
+            to: self.to,
+            received: self.received,
+        })
     }
 }
 

@@ -4,7 +4,7 @@ ghost use Rattle.std.specs.Prelude.{◌≡◌, ◌+◌, ◌<◌, ◌^◌, count_
 ghost use Rattle.pool_tables.specs.DaemonTables.{first_state, first_startds, same_daemon, state_refusal, boot_refusal, crash_refusal_at, reopen_refusal_at, is_down, with_startd};
 
 use crate::refusal::StepError;
-use ad_value::Memory;
+use ad_value::{Copied, Memory};
 use pool_outer::Daemon;
 use std::alloc::Global;
 
@@ -15,6 +15,13 @@ pub struct DaemonState {
     pub up: bool,
     /// How often it may still crash.
     pub crashes: u64,
+}
+
+impl Copied for DaemonState {
+    /// An equal state, without memory. Computes in O(1).
+    fn copy(&self, _: Global) -> Result<DaemonState, Memory> {
+        Ok(*self)
+    }
 }
 
 /// A daemon that is up in its first boot, and may crash once for each time that it is listed.
