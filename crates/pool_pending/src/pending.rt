@@ -1,9 +1,11 @@
 ghost use Rattle.std.specs.Prelude.{◌≡◌};
 ghost use Rattle.pool_pending.specs.Plans.{leaving_job, ordered_job};
 
+use ad_value::{Copied, Memory};
 use claim_id::JobId;
 use queue_tx::Tx;
 use schedd_plan::JobPlan;
+use std::alloc::Global;
 
 /// What an unfinished transaction is to do.
 #[derive(Clone, Copy, Debug)]
@@ -29,6 +31,24 @@ impl Drop for Pending {
             tx: _tx,
             what: _,
         } = self;
+    }
+}
+
+impl Copied for Unfinished {
+    /// An equal value, without memory. Computes in O(1).
+    fn copy(&self, _: Global) -> Result<Unfinished, Memory> {
+        Ok(*self)
+    }
+}
+
+impl Copied for Pending {
+    /// An equal value. Computes in O(size of the transaction).
+    fn copy(&self, alloc: Global) -> Result<Pending, Memory> {
+        Ok(Pending {
+            number: self.number,
+            tx: self.tx.copy(alloc)?,
+            what: self.what,
+        })
     }
 }
 
