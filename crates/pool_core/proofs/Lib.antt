@@ -1,5 +1,6 @@
 pub mod Causes
 pub mod Counting
+pub mod Growing
 pub mod Keeping
 pub mod LiveOnes
 pub mod QueueNames

@@ -1,4 +1,5 @@
 pub mod KeptPools
+pub mod Leading
 pub mod Made
 pub mod Pushed
 pub mod Refused

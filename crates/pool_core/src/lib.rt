@@ -4,7 +4,10 @@
 mod daemons;
 mod events;
 mod happening;
+mod history;
+pub mod laws;
 mod names;
 mod pool;
 
+pub use history::{Faults, History, Step, StepList};
 pub use pool::Pool;

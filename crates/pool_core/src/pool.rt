@@ -26,7 +26,7 @@ ghost use Rattle.schedd_core.specs.Reopening.{IsReader};
 use crate::happening;
 use crate::names::go_over_names;
 use ad_tree::Ad;
-use ad_value::Memory;
+use ad_value::{Copied, Memory};
 use claim_id::{JobId, SlotId};
 use pool_event::{Event, Look, Stepped};
 use pool_mail::{Mail, RequestList};
@@ -209,4 +209,19 @@ impl Pool {
     {
         self.state.view(alloc)
     }
+}
+
+impl Copied for Pool {
+    fn copy(&self, alloc: Global) -> Result<Pool, Memory> {
+        let state = copy_state(alloc, &self.state)?;
+        Ok(Pool { state })
+    }
+}
+
+// STAND-IN
+fn copy_state(_: Global, state: &PoolState) -> Result<PoolState, Memory>
+    ensures { IfOk result (λ copied. copied ≡ state.now) }
+{
+    let _ = state;
+    Err(Memory)
 }
