@@ -18,7 +18,7 @@ use Rattle.pool_state.specs.declared.refusal.TheConstants.{MAX_EVENTS}
 use Rattle.pool_state.specs.declared.state.PoolState.{PoolState}
 use Rattle.pool_state.specs.Judging.{IsSomeLive, judged_in, nothing_given}
 use Rattle.pool_state.specs.Refusals.{IsAdRefusal, IsAdRefusalBy, IsEventRefusal, IsIdleRefusal, IsNone, IsRefusal, IsReturnRefusal, IsUnquietRefusal, Refusal, Then, Unless, busy_refusal, check_refusal, claim_left, closed_refusal, down_left, ended_refusal, events_refusal, first_of, first_slot, is_over, is_startd_due, jobs_refusal, matchmaker_refusal, moved, not_quiet, order_left, order_refusal, pending_left, receive_refusal, run_left, run_refusal, schedd_refusal, stray_refusal, submit_refusal, tick_refusal, under_left, unless_due, unquiet_refusal}
-use Rattle.pool_tables.specs.DaemonTables.{boot_refusal, crash_refusal, crash_refusal_at, daemon_refusal, first_down, reopen_refusal, reopen_refusal_at, same_daemon, state_of, state_refusal}
+use Rattle.pool_tables.specs.DaemonTables.{boot_refusal, crash_refusal, crash_refusal_at, daemon_refusal, first_down, reopen_refusal, reopen_refusal_at, same_daemon, daemon_state, state_refusal}
 use Rattle.pool_tables.specs.MailLists.{MailsValue, again, mail_refusal, may_receive, sent_refusal}
 use Rattle.pool_tables.specs.OrderTables.{is_due_for, is_open}
 use Rattle.pool_tables.specs.declared.refusal.StepError.{StepError}
@@ -122,7 +122,7 @@ kept_other o (Some t) r h = receipt_other o t r h
 -- ---- of the schedd and the startds
 schedd_other : (boot : ℕ) (s : PoolState) → IsOther (schedd_refusal boot s)
 schedd_other boot s =
-    first_other (daemon_refusal Schedd boot s.daemons ∷ still_pending s.pending ∷ []) (state_other Schedd boot (state_of Schedd s.daemons), (still_other s.pending, tt))
+    first_other (daemon_refusal Schedd boot s.daemons ∷ still_pending s.pending ∷ []) (state_other Schedd boot (daemon_state Schedd s.daemons), (still_other s.pending, tt))
 
 due_other : (due : Bool) → IsOther (unless_due due)
 due_other due = if_other due error.NotDue (λ b. cc)
@@ -137,9 +137,9 @@ tick_other Schedd boot t s =
     first_other (schedd_refusal boot s ∷ unless_due (is_due s.schedd s.queue t) ∷ []) (schedd_other boot s, (due_other (is_due s.schedd s.queue t), tt))
 tick_other (Startd machine) boot t s =
     let due = is_startd_due (slice_get s.machines machine) t in
-    first_other (daemon_refusal (Startd machine) boot s.daemons ∷ unless_due due ∷ []) (state_other (Startd machine) boot (state_of (Startd machine) s.daemons), (due_other due, tt))
+    first_other (daemon_refusal (Startd machine) boot s.daemons ∷ unless_due due ∷ []) (state_other (Startd machine) boot (daemon_state (Startd machine) s.daemons), (due_other due, tt))
 tick_other Matchmaker boot t s =
-    first_other (daemon_refusal Matchmaker boot s.daemons ∷ Some error.NotDue ∷ []) (state_other Matchmaker boot (state_of Matchmaker s.daemons), ((λ b. cc), tt))
+    first_other (daemon_refusal Matchmaker boot s.daemons ∷ Some error.NotDue ∷ []) (state_other Matchmaker boot (daemon_state Matchmaker s.daemons), ((λ b. cc), tt))
 
 left_other : (o : Option RunNo) → IsOther (run_left o)
 left_other None = none_other
@@ -153,7 +153,7 @@ return_other Matchmaker kept ended s r h = same_other None r none_other h
 received_other : (who : Daemon) (boot index : ℕ) (s : PoolState) → IsOther (receive_refusal who boot index s)
 received_other who boot index s =
     first_other (daemon_refusal who boot s.daemons ∷ mail_refusal who index s.mails ∷ busy_refusal who s ∷ [])
-    (state_other who boot (state_of who s.daemons), (sent_other who index s.mails (slice_get s.mails.sent index), (busy_other who s, tt)))
+    (state_other who boot (daemon_state who s.daemons), (sent_other who index s.mails (slice_get s.mails.sent index), (busy_other who s, tt)))
 
 -- ---- of the end
 quiet_other : (o : Option Unquiet) → IsOther (not_quiet o)
@@ -190,16 +190,16 @@ event_other (event.Check boot job reading) s r h =
     (first_other (schedd_refusal boot s ∷ unless_due (is_check_due s.schedd s.queue job reading) ∷ []) (schedd_other boot s, (due_other (is_check_due s.schedd s.queue job reading), tt)))
     h
 event_other (event.Logged boot receipt) s r h =
-    then_other (daemon_refusal Schedd boot s.daemons) (IsReceiptRefusal s.pending receipt) r (state_other Schedd boot (state_of Schedd s.daemons)) (receipt_other s.pending receipt r) h
+    then_other (daemon_refusal Schedd boot s.daemons) (IsReceiptRefusal s.pending receipt) r (state_other Schedd boot (daemon_state Schedd s.daemons)) (receipt_other s.pending receipt r) h
 event_other (event.Ended machine boot receipt reading) s r h =
     let run = receipt.item.run in
     same_other (ended_refusal machine boot run s) r
     (first_other (daemon_refusal (Startd machine) boot s.daemons ∷ run_refusal (has_run machine run s.machines) run ∷ [])
-    (state_other (Startd machine) boot (state_of (Startd machine) s.daemons), (if_other (has_run machine run s.machines) (error.NoRun run) (λ b. cc), tt)))
+    (state_other (Startd machine) boot (daemon_state (Startd machine) s.daemons), (if_other (has_run machine run s.machines) (error.NoRun run) (λ b. cc), tt)))
     h
-event_other (event.Crash who) s r h = same_other (crash_refusal who s.daemons) r (crash_other who (state_of who s.daemons)) h
+event_other (event.Crash who) s r h = same_other (crash_refusal who s.daemons) r (crash_other who (daemon_state who s.daemons)) h
 event_other (event.Reopen who kept ended reading) s r h =
-    then_other (reopen_refusal who s.daemons) (IsReturnRefusal who kept ended s) r (reopen_other who (state_of who s.daemons)) (return_other who kept ended s r) h
+    then_other (reopen_refusal who s.daemons) (IsReturnRefusal who kept ended s) r (reopen_other who (daemon_state who s.daemons)) (return_other who kept ended s r) h
 event_other (event.Matches list judged reading) s r h =
     then_other (matchmaker_refusal s) (Unless (IsSomeLive s list judged reading) error.NotDue IsNone) r (if_other s.daemons.matchmaker.up (error.Down Matchmaker) (λ b. cc)) (λ u. unless_other (λ b. cc) (λ none. same_other None r none_other none) u) h
 event_other (event.Close length reading mismatch) s r h = idle_other h.0 length reading mismatch s r h.2

@@ -7,7 +7,7 @@ ghost use Rattle.pool_moves.specs.Deeds.{at_rest, receives};
 ghost use Rattle.pool_moves.specs.Happens.{ComesBack, IsReopened, Receives, Ticks, crashes, is_known};
 ghost use Rattle.pool_moves.specs.Limits.{IsLimit, IsTooLarge, IsWithin};
 ghost use Rattle.pool_state.specs.Readings.{boot_of};
-ghost use Rattle.pool_tables.specs.DaemonTables.{state_of};
+ghost use Rattle.pool_tables.specs.DaemonTables.{daemon_state};
 ghost use Rattle.pool_tables.specs.declared.refusal.StepError.TheVariants as error;
 
 use ad_eval::Judged;
@@ -168,7 +168,7 @@ pub(crate) fn reopen(
 // Memory where the boot is the last of 64 bits, or the daemon is not of the pool.
 fn next_boot(state: &PoolState, who: Daemon) -> Result<u64, StepError>
     ensures boot { IfOk result
-        (λ boot. boot ≡ boot_of (state_of who state.now.daemons) + 1) }
+        (λ boot. boot ≡ boot_of (daemon_state who state.now.daemons) + 1) }
     ensures memory { IfErr result (λ e. e ≡ error.Memory) }
 {
     let Some(daemon) = state.daemons.get(who) else {

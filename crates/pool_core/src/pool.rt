@@ -15,7 +15,7 @@ ghost use Rattle.pool_state.specs.Readings.{AreWanted, IsCheckDue, IsDue, IsLook
 ghost use Rattle.pool_state.specs.Refusals.{IsRefusal};
 ghost use Rattle.pool_tables.specs.declared.refusal.MailError.TheVariants as mail_errors;
 ghost use Rattle.pool_tables.specs.declared.refusal.StepError.TheVariants as error;
-ghost use Rattle.pool_tables.specs.DaemonTables.{state_of};
+ghost use Rattle.pool_tables.specs.DaemonTables.{daemon_state};
 ghost use Rattle.pool_tables.specs.MailLists.{IsMailTo, IsNextMail, IsOfPool, mail_error};
 ghost use Rattle.pool_view.specs.AbstractPool.{AbstractPool};
 ghost use Rattle.pool_view.specs.Safe.{Safe};
@@ -163,8 +163,8 @@ impl Pool {
 
     /// The boot of a daemon of the pool. Computes in O(1).
     pub fn boot(&self, who: Daemon) -> u64
-        requires { IsSome (state_of who self.now.daemons) }
-        ensures { result ≡ boot_of (state_of who self.now.daemons) }
+        requires { IsSome (daemon_state who self.now.daemons) }
+        ensures { result ≡ boot_of (daemon_state who self.now.daemons) }
     {
         self.state.boot(who)
     }

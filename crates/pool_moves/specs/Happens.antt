@@ -21,7 +21,7 @@ use Rattle.pool_state.specs.Judging.{IsLive}
 use Rattle.pool_state.specs.PoolJobs.{has_job}
 use Rattle.pool_state.specs.Readings.{boot_of}
 use Rattle.pool_submission.specs.Submissions.{submission_ops}
-use Rattle.pool_tables.specs.DaemonTables.{crashed, reopened, state_of, with_state}
+use Rattle.pool_tables.specs.DaemonTables.{crashed, reopened, daemon_state, with_state}
 use Rattle.pool_tables.specs.OrderTables.{is_due_for}
 use Rattle.queue_tx.specs.declared.key.Key.TheVariants.{Header}
 use Rattle.queue_tx.specs.Queues.{ad_at}
@@ -74,12 +74,12 @@ Ticks Matchmaker reading s new r = (new ≡ s) × IsDone r
 -- ---- crashes
 abbrev pub crashes : Daemon → PoolState → PoolState
 crashes who s =
-    record s { daemons = with_state who (crashed (state_of who s.daemons)) s.daemons }
+    record s { daemons = with_state who (crashed (daemon_state who s.daemons)) s.daemons }
 
 -- the daemon is up, in that boot
 abbrev pub boots : ℕ → Daemon → PoolState → PoolState
 boots boot who s = record s {
-  daemons = with_state who (reopened boot (state_of who s.daemons)) s.daemons;
+  daemons = with_state who (reopened boot (daemon_state who s.daemons)) s.daemons;
 }
 
 abbrev pub ComesBack : Daemon → Bool → ℕ → PoolState → PoolState → Stepped → Type 0
@@ -92,7 +92,7 @@ pub record IsReopened (who : Daemon) (kept : Bool) (reading : ℕ) (s new : Pool
     : Type 0 where
   pub back : PoolState
   pub comes : ComesBack who kept reading s back r
-  pub pool : new ≡ boots (boot_of (state_of who s.daemons) + 1) who back
+  pub pool : new ≡ boots (boot_of (daemon_state who s.daemons) + 1) who back
 
 -- ---- matches
 pub record IsLiveFirst (s : PoolState) (m : Match) (j : Judgement) (reading : ℕ)

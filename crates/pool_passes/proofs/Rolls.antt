@@ -20,7 +20,7 @@ use Rattle.pool_state.specs.declared.state.PoolState.{PoolState}
 use Rattle.pool_state.specs.Readings.{boot_of}
 use Rattle.pool_tables.specs.declared.sent.Sent.{Sent}
 use Rattle.pool_tables.specs.declared.states.DaemonState.{DaemonState}
-use Rattle.pool_tables.specs.DaemonTables.{DaemonsValue, crashed, reopened, set_state, state_of, with_startd, with_state}
+use Rattle.pool_tables.specs.DaemonTables.{DaemonsValue, crashed, reopened, set_state, daemon_state, with_startd, with_state}
 use Rattle.pool_tables.specs.OrderTables.{is_due_for}
 use Rattle.queue_tx.specs.Queues.{KeyedAds}
 use Rattle.startd_core.specs.Startds.{After, StartdValue, after_end, after_mail, after_reboot, after_tick}
@@ -30,7 +30,7 @@ use Rattle.pool_passes.proofs.Readers.{some_reads}
 pub record HasSameRolls (s new : PoolState) : Type 0 where
   pub log : new.log_mark ≡ s.log_mark
   pub ends : new.end_marks.items ≡ s.end_marks.items
-  pub daemons : (who : Daemon) → is_some (state_of who new.daemons) ≡ is_some (state_of who s.daemons)
+  pub daemons : (who : Daemon) → is_some (daemon_state who new.daemons) ≡ is_some (daemon_state who s.daemons)
 
 -- ---- the daemons, one of which stands anew
 set_there : (xs : List DaemonState) (i place : ℕ) (x : DaemonState) → is_some (slice_get (slice_set xs i x) place) ≡ is_some (slice_get xs place)
@@ -47,7 +47,7 @@ startd_there xs i place x = by (nat_lt i (length xs))
     by true = set_there xs i place x
     by false = refl
 
-set_state_there : (who other : Daemon) (x : DaemonState) (d : DaemonsValue) → is_some (state_of other (set_state who x d)) ≡ is_some (state_of other d)
+set_state_there : (who other : Daemon) (x : DaemonState) (d : DaemonsValue) → is_some (daemon_state other (set_state who x d)) ≡ is_some (daemon_state other d)
 set_state_there Schedd Schedd x d = refl
 set_state_there Schedd (Startd machine) x d = refl
 set_state_there Schedd Matchmaker x d = refl
@@ -58,7 +58,7 @@ set_state_there Matchmaker Schedd x d = refl
 set_state_there Matchmaker (Startd machine) x d = refl
 set_state_there Matchmaker Matchmaker x d = refl
 
-state_there : (who other : Daemon) (o : Option DaemonState) (d : DaemonsValue) → is_some (state_of other (with_state who o d)) ≡ is_some (state_of other d)
+state_there : (who other : Daemon) (o : Option DaemonState) (d : DaemonsValue) → is_some (daemon_state other (with_state who o d)) ≡ is_some (daemon_state other d)
 state_there who other None d = refl
 state_there who other (Some x) d = set_state_there who other x d
 
@@ -133,10 +133,10 @@ event_rolls (event.Ended machine boot receipt reading) s new r h = by (slice_get
     by : (o : Option StartdValue) → IsSomeAnd o (λ v. IsStartdStep machine (f v) (ends_after receipt.item.run v (f v)) s new r) → HasSameRolls s new
     by None h = absurd h
     by (Some v) h = by_pool s _ new (record { log = refl; ends = refl; daemons = λ who. refl }) h.pool
-event_rolls (event.Crash who) s new r h = by_pool s _ new (record { log = refl; ends = refl; daemons = λ other. state_there who other (crashed (state_of who s.daemons)) s.daemons }) h.0
+event_rolls (event.Crash who) s new r h = by_pool s _ new (record { log = refl; ends = refl; daemons = λ other. state_there who other (crashed (daemon_state who s.daemons)) s.daemons }) h.0
 event_rolls (event.Reopen who kept ended reading) s new r h =
     let back = back_rolls who (is_some kept) reading s h.back r h.comes in
-    by_pool s _ new (record { log = back.log; ends = back.ends; daemons = λ other. state_there who other (reopened (boot_of (state_of who s.daemons) + 1) (state_of who h.back.daemons)) h.back.daemons ∙ back.daemons other }) h.pool
+    by_pool s _ new (record { log = back.log; ends = back.ends; daemons = λ other. state_there who other (reopened (boot_of (daemon_state who s.daemons) + 1) (daemon_state who h.back.daemons)) h.back.daemons ∙ back.daemons other }) h.pool
 event_rolls (event.Matches list judged reading) s new r h = by_pool s _ new (record { log = refl; ends = refl; daemons = λ who. refl }) h.pool
 event_rolls (event.Close count reading mismatch) s new r h = by_pool s _ new (record { log = refl; ends = refl; daemons = λ who. refl }) h.0
 

@@ -30,7 +30,7 @@ use Rattle.pool_state.specs.declared.state.PoolState.{PoolState}
 use Rattle.pool_state.specs.Readings.{boot_of}
 use Rattle.pool_state.specs.Refusals.{IsAdRefusal, IsEventRefusal, IsReturnRefusal, Refusal, receive_refusal, schedd_refusal, tick_refusal, unless_due}
 use Rattle.pool_tables.specs.declared.sent.Sent.{Sent}
-use Rattle.pool_tables.specs.DaemonTables.{daemon_refusal, reopen_refusal, state_of}
+use Rattle.pool_tables.specs.DaemonTables.{daemon_refusal, reopen_refusal, daemon_state}
 use Rattle.pool_tables.specs.MailLists.{mail_refusal}
 use Rattle.pool_tables.specs.OrderTables.{is_due_for}
 use Rattle.queue_tx.specs.Operations.{Operation}
@@ -255,6 +255,6 @@ own_log mine place (event.Crash who) s new r own free h stands = by who own h
 own_log mine place (event.Reopen who kept ended reading) s new r own free h stands =
     let e : Event = event.Reopen who kept ended reading in
     let go = reopen_goes mine place who kept ended reading s h.back r own (none_then (reopen_refusal who s.daemons) (IsReturnRefusal who kept ended s) free) h.comes stands in
-    subst (λ (x : PoolState). GoesWith mine s place e x r) (sym h.pool) (booted_goes mine place e s h.back r (boot_of (state_of who s.daemons) + 1) who go)
+    subst (λ (x : PoolState). GoesWith mine s place e x r) (sym h.pool) (booted_goes mine place e s h.back r (boot_of (daemon_state who s.daemons) + 1) who go)
 own_log mine place (event.Matches list judged reading) s new r own free h stands = absurd (let clash : Some Matchmaker ≡ Some Schedd = own in cc)
 own_log mine place (event.Close count reading mismatch) s new r own free h stands = absurd (none-some _ own)

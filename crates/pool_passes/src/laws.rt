@@ -17,7 +17,7 @@ ghost use Rattle.pool_outer.specs.declared.gate.Daemon.{Daemon};
 ghost use Rattle.pool_passes.specs.Standing.{HasRoll, Stands, end_mark_of, logged_before};
 ghost use Rattle.pool_state.specs.declared.state.PoolState.{PoolState};
 ghost use Rattle.pool_state.specs.Refusals.{IsRefusal};
-ghost use Rattle.pool_tables.specs.DaemonTables.{state_of};
+ghost use Rattle.pool_tables.specs.DaemonTables.{daemon_state};
 ghost use Rattle.schedd_core.specs.Reopening.{IsReader};
 
 /// Some function reads the texts of claims.
@@ -48,7 +48,7 @@ pub fn rolls_stay()
         → new.end_marks.items ≡ s.end_marks.items }
     ensures daemons { (s new : PoolState) (e : Event) (r : Stepped) (who : Daemon)
         → Reacts s e r new
-        → is_some (state_of who new.daemons) ≡ is_some (state_of who s.daemons) }
+        → is_some (daemon_state who new.daemons) ≡ is_some (daemon_state who s.daemons) }
 {}
 
 /// What the entries of a pass have to do with the pool (`Stands`) goes on so with an event of its

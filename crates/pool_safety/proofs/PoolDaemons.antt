@@ -10,7 +10,7 @@ use Rattle.pool_outer.specs.declared.gate.Daemon.TheVariants.{Schedd, Startd, Ma
 use Rattle.pool_protocol.specs.Protocol.{Protocol}
 use Rattle.pool_state.specs.Readings.{boot_of}
 use Rattle.pool_state.specs.declared.state.PoolState.{PoolState}
-use Rattle.pool_tables.specs.DaemonTables.{DaemonsValue, crashed, state_of, with_state}
+use Rattle.pool_tables.specs.DaemonTables.{DaemonsValue, crashed, daemon_state, with_state}
 use Rattle.pool_tables.specs.declared.sent.Sent.{Sent}
 use Rattle.pool_tables.specs.declared.states.DaemonState.{DaemonState}
 use Rattle.queue_tx.specs.Operations.{Operation}
@@ -35,7 +35,7 @@ unfolding Happens
 ticks_keep p s boot reading new r k happens = subst (λ t. GoesOn p (at_reading reading t)) (sym happens.0) (read_on p s _ reading k (λ q kept. staying q _ kept))
 
 -- the boots of machines stay where those of startds do
-pub daemons_kept : (p : Protocol) (s : PoolState) (d : DaemonsValue) → ((machine : ℕ) → boot_of (state_of (Startd machine) d) ≡ boot_of (state_of (Startd machine) s.daemons)) → IsKept p s → IsKept p (record s { daemons = d })
+pub daemons_kept : (p : Protocol) (s : PoolState) (d : DaemonsValue) → ((machine : ℕ) → boot_of (daemon_state (Startd machine) d) ≡ boot_of (daemon_state (Startd machine) s.daemons)) → IsKept p s → IsKept p (record s { daemons = d })
 daemons_kept p s d same k = record {
   linked = k.linked;
   pending = k.pending;
@@ -47,7 +47,7 @@ daemons_kept p s d same k = record {
 pub returns_keep : (p : Protocol) (s : PoolState) (kept : Option (ReceiptValue (List Operation))) (ended : List (ReceiptValue Ending)) (reading : ℕ) (new : PoolState) (r : Stepped) → IsKept p s
     → Happens (event.Reopen Matchmaker kept ended reading) s new r → GoesOn p (at_reading reading new)
 unfolding Happens
-returns_keep p s kept ended reading new r k happens = subst (λ t. GoesOn p (at_reading reading t)) (sym (happens.pool ∙ ap (Rattle.pool_moves.specs.Happens.boots (boot_of (state_of Matchmaker s.daemons) + 1) Matchmaker) happens.comes.0))
+returns_keep p s kept ended reading new r k happens = subst (λ t. GoesOn p (at_reading reading t)) (sym (happens.pool ∙ ap (Rattle.pool_moves.specs.Happens.boots (boot_of (daemon_state Matchmaker s.daemons) + 1) Matchmaker) happens.comes.0))
     (read_on p s _ reading k (λ q is. staying q _ (daemons_kept q (at_reading reading s) _ (λ machine. refl) is)))
 
 -- ---- a crash
@@ -58,7 +58,7 @@ put_boot (x ∷ xs) zero (suc k) old new at same = refl
 put_boot (x ∷ xs) (suc i) zero old new at same = refl
 put_boot (x ∷ xs) (suc i) (suc k) old new at same = put_boot xs i k old new at same
 
-crashed_boot : (who : Daemon) (d : DaemonsValue) (machine : ℕ) → boot_of (state_of (Startd machine) (with_state who (crashed (state_of who d)) d)) ≡ boot_of (state_of (Startd machine) d)
+crashed_boot : (who : Daemon) (d : DaemonsValue) (machine : ℕ) → boot_of (daemon_state (Startd machine) (with_state who (crashed (daemon_state who d)) d)) ≡ boot_of (daemon_state (Startd machine) d)
 crashed_boot Schedd d machine = refl
 crashed_boot Matchmaker d machine = refl
 crashed_boot (Startd k) d machine = by (slice_get d.startds k) refl
@@ -67,7 +67,7 @@ crashed_boot (Startd k) d machine = by (slice_get d.startds k) refl
     put true old at = put_boot d.startds k machine old (record old { up = false; crashes = old.crashes - 1 }) at refl
     put false old at = refl
 
-    by : (o : Option DaemonState) → slice_get d.startds k ≡ o → boot_of (state_of (Startd machine) (with_state (Startd k) (crashed o) d)) ≡ boot_of (state_of (Startd machine) d)
+    by : (o : Option DaemonState) → slice_get d.startds k ≡ o → boot_of (daemon_state (Startd machine) (with_state (Startd k) (crashed o) d)) ≡ boot_of (daemon_state (Startd machine) d)
     by None at = refl
     by (Some old) at = put (nat_lt k (length d.startds)) old at
 

@@ -23,7 +23,7 @@ use Rattle.pool_state.specs.Openings.{AreListed, AreRemoved, CanOpen, IsOpenedBy
 use Rattle.pool_state.specs.Readings.{boot_of}
 use Rattle.pool_state.specs.declared.opening.Opening.{Opening}
 use Rattle.pool_state.specs.declared.state.PoolState.{PoolState}
-use Rattle.pool_tables.specs.DaemonTables.{first_startds, first_state, state_of}
+use Rattle.pool_tables.specs.DaemonTables.{first_startds, first_state, daemon_state}
 use Rattle.pool_tables.specs.declared.states.DaemonState.{DaemonState}
 use Rattle.pool_view.proofs.Members.{in_filter, passes, passing_in}
 use Rattle.pool_view.proofs.Sameness.{both_true}
@@ -268,7 +268,7 @@ boots_are o s can opened machine v at =
     let there : slice_get (opening_startds o) machine ≡ Some v = sym (ap (λ vs. slice_get vs machine) opened.machines) ∙ at in
     let n = length (opening_startds o) in
     let boot : ℕ = o.pool_boot * 2 ^ 32 in
-    ap (λ d. boot_of (state_of (Startd machine) d)) opened.daemons
+    ap (λ d. boot_of (daemon_state (Startd machine) d)) opened.daemons
     ∙ (boot_there (first_startds n boot o.allow.crashes) boot machine (first_boots n boot o.allow.crashes)
     (subst (λ k. machine < k) (sym (so_many n boot o.allow.crashes)) (slice_get_within (opening_startds o) machine v there))
     ∙ sym (startd_fresh o machine v can there).boot)

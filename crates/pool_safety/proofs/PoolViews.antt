@@ -19,7 +19,7 @@ use Rattle.pool_shown.specs.ShownSlots.{ad_on, boot_at, boot_in, mark_on, run_on
 use Rattle.pool_state.specs.PoolViews.{IsViewOf}
 use Rattle.pool_state.specs.Readings.{boot_of}
 use Rattle.pool_state.specs.declared.state.PoolState.{PoolState}
-use Rattle.pool_tables.specs.DaemonTables.{DaemonsValue, state_of}
+use Rattle.pool_tables.specs.DaemonTables.{DaemonsValue, daemon_state}
 use Rattle.pool_tables.specs.declared.states.DaemonState.{DaemonState}
 use Rattle.pool_view.specs.AbstractPool.{IsIn, SameMembers}
 use Rattle.pool_view.specs.Numbers.{same_slot}
@@ -103,7 +103,7 @@ slots_in_boot p d vs startds boots v there s here =
     let startd = startds at.0 v at.1 in
     let place = in_place s v.slots here in
     let machine : s.id.machine ≡ at.0 = ap (λ (i : SlotId). i.machine) (startd.sound.slots place.0 s place.1).numbered ∙ startd.numbered in
-    same_boot (state_of (Startd s.id.machine) d) ∙ (ap (λ m. boot_of (state_of (Startd m) d)) machine ∙ boots at.0 v at.1)
+    same_boot (daemon_state (Startd s.id.machine) d) ∙ (ap (λ m. boot_of (daemon_state (Startd m) d)) machine ∙ boots at.0 v at.1)
 
 -- ---- the whole view
 same_members : {A : Type 0} (xs ys : List A) → xs ≡ ys → SameMembers xs ys

@@ -13,7 +13,7 @@ use Rattle.pool_protocol.specs.Protocol.{Protocol}
 use Rattle.pool_protocol.specs.ProtocolMove.{Commit, Drop, protocol_after_all}
 use Rattle.pool_state.specs.declared.state.PoolState.{PoolState}
 use Rattle.pool_state.specs.Readings.{boot_of}
-use Rattle.pool_tables.specs.DaemonTables.{state_of}
+use Rattle.pool_tables.specs.DaemonTables.{daemon_state}
 use Rattle.pool_view.specs.declared.job.Entry.{Entry}
 use Rattle.queue_tx.specs.Operations.{Operation}
 use Rattle.queue_tx.specs.Queues.{KeyedAds, queue_after}
@@ -135,5 +135,5 @@ module _ (read : List ℕ → Option ClaimId) (reads : IsReader read) where
   unfolding Happens
   return_keeps p s new r kept ended reading is does =
       subst (λ (x : PoolState). GoesOn p (at_reading reading x)) (sym does.pool)
-      (booted_goes p (at_reading reading does.back) (boot_of (state_of Schedd s.daemons) + 1)
+      (booted_goes p (at_reading reading does.back) (boot_of (daemon_state Schedd s.daemons) + 1)
       (back_goes p s does.back (is_some kept) reading is does.comes.0))

@@ -8,7 +8,7 @@ use Rattle.pool_mail.specs.declared.mail.Mail.{Mail}
 use Rattle.pool_outer.specs.declared.gate.Daemon.TheVariants.{Startd}
 use Rattle.pool_state.specs.Readings.{boot_of}
 use Rattle.pool_tables.specs.declared.states.DaemonState.{DaemonState}
-use Rattle.pool_tables.specs.DaemonTables.{DaemonsValue, reopened, state_of, with_startd, with_state}
+use Rattle.pool_tables.specs.DaemonTables.{DaemonsValue, reopened, daemon_state, with_startd, with_state}
 use Rattle.startd_slot.specs.declared.slot.Slot.{Slot}
 use Rattle.startd_slot.specs.EndingTable.{after_ending}
 use Rattle.startd_slot.specs.Mails.{asked_claim, reaction_to}
@@ -63,9 +63,9 @@ end_machine v ending reading = by_place (place_of v ending.run.claim.slot)
 pub still_in_boot : (d : DaemonsValue) (vs : List StartdValue) (machine : ℕ) (v w : StartdValue) → AreInBoot d vs → slice_get vs machine ≡ Some v → w.machine ≡ v.machine → AreInBoot d (slice_set vs machine w)
 still_in_boot d vs machine v w are at same k u there = by (put_cases vs machine k w u there)
   where
-    by : ((k ≡ machine) × (u ≡ w)) ⊎ ((k ≢ machine) × (slice_get vs k ≡ Some u)) → boot_of (state_of (Startd k) d) ≡ u.machine.boot
+    by : ((k ≡ machine) × (u ≡ w)) ⊎ ((k ≢ machine) × (slice_get vs k ≡ Some u)) → boot_of (daemon_state (Startd k) d) ≡ u.machine.boot
     by (inl here) =
-        ap (λ n. boot_of (state_of (Startd n) d)) here.0
+        ap (λ n. boot_of (daemon_state (Startd n) d)) here.0
         ∙ (are machine v at
         ∙ (sym (ap (λ (m : Machine). m.boot) same) ∙ sym (ap (λ (x : StartdValue). x.machine.boot) here.1)))
     by (inr other) = are k u other.1
@@ -99,7 +99,7 @@ startd_there startds machine k new other = by (nat_lt machine (length startds))
 
 -- and so is the startd of that machine, and no other has changed
 pub next_in_boot : (d : DaemonsValue) (vs : List StartdValue) (machine boot : ℕ) (old : DaemonState) (w : StartdValue) → AreInBoot d vs → slice_get d.startds machine ≡ Some old → w.machine.boot ≡ boot
-    → AreInBoot (with_state (Startd machine) (reopened boot (state_of (Startd machine) d)) d) (slice_set vs machine w)
+    → AreInBoot (with_state (Startd machine) (reopened boot (daemon_state (Startd machine) d)) d) (slice_set vs machine w)
 next_in_boot d vs machine boot old w are state same =
     subst (λ o. AreInBoot (with_state (Startd machine) (reopened boot o) d) (slice_set vs machine w)) (sym state) up
   where

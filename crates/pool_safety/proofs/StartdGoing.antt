@@ -12,7 +12,7 @@ use Rattle.pool_protocol.specs.ProtocolMove.{PassTime, protocol_after}
 use Rattle.pool_state.specs.declared.state.PoolState.{PoolState}
 use Rattle.pool_state.specs.Readings.{boot_of}
 use Rattle.pool_state.specs.Refusals.{IsAdRefusal, IsEventRefusal, IsReturnRefusal, busy_refusal, receive_refusal}
-use Rattle.pool_tables.specs.DaemonTables.{daemon_refusal, reopen_refusal, reopen_refusal_at, state_of}
+use Rattle.pool_tables.specs.DaemonTables.{daemon_refusal, reopen_refusal, reopen_refusal_at, daemon_state}
 use Rattle.pool_tables.specs.MailLists.{mail_refusal}
 use Rattle.pool_tables.specs.declared.refusal.StepError.TheVariants as error
 use Rattle.pool_tables.specs.declared.sent.Sent.{Sent}
@@ -153,9 +153,9 @@ booted_goes_on p s new r machine reading kept_tx ended kept free happens =
     let own : (v : StartdValue) × (slice_get s.machines machine ≡ Some v) × IsStartdStep machine (after_reboot v reading) [] s back.back r = some_and (slice_get s.machines machine) (λ v. IsStartdStep machine (after_reboot v reading) [] s back.back r) back.comes in
     let v : StartdValue = own.0 in
     let a : After = after_reboot v reading in
-    let boot : ℕ = boot_of (state_of (Startd machine) s.daemons) + 1 in
+    let boot : ℕ = boot_of (daemon_state (Startd machine) s.daemons) + 1 in
     let both = then_none (reopen_refusal (Startd machine) s.daemons) (IsReturnRefusal (Startd machine) kept_tx ended s) free in
-    let daemon = daemon_there (state_of (Startd machine) s.daemons) machine both.0 in
+    let daemon = daemon_there (daemon_state (Startd machine) s.daemons) machine both.0 in
     let same : new ≡ boots boot (Startd machine) (startd_acts machine a.startd a.step [] s) = back.pool ∙ ap (boots boot (Startd machine)) own.2.pool in
     let next : v.machine.boot + 1 ≡ boot = ap (λ n. n + 1) (sym (kept.boots machine v own.1)) in
     let goes = acted_goes p s (boots boot (Startd machine) (startd_acts machine a.startd a.step [] s)) machine reading a [] (moves_of_boots v) kept

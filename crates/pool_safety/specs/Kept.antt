@@ -9,7 +9,7 @@ use Rattle.pool_protocol.specs.Protocol.{Protocol}
 use Rattle.pool_protocol.specs.ProtocolMove.{ProtocolMove, MayAll, protocol_after_all}
 use Rattle.pool_state.specs.declared.state.PoolState.{PoolState}
 use Rattle.pool_state.specs.Readings.{boot_of}
-use Rattle.pool_tables.specs.DaemonTables.{DaemonsValue, state_of}
+use Rattle.pool_tables.specs.DaemonTables.{DaemonsValue, daemon_state}
 use Rattle.pool_tables.specs.declared.sent.Sent.{Sent}
 use Rattle.pool_view.specs.AbstractPool.{IsIn}
 use Rattle.queue_tx.specs.Operations.{Operation}
@@ -34,7 +34,7 @@ AreAddressed sent = (s : Sent) → IsIn s sent → IsIn s.to (receivers_of s.mai
 -- each startd is in the boot of its machine
 abbrev pub AreInBoot : DaemonsValue → List StartdValue → Type 0
 AreInBoot daemons vs = (machine : ℕ) (v : StartdValue) → slice_get vs machine ≡ Some v
-    → boot_of (state_of (Startd machine) daemons) ≡ v.machine.boot
+    → boot_of (daemon_state (Startd machine) daemons) ≡ v.machine.boot
 
 -- The parts of a pool are linked to the protocol of its daemons, and what else its events rest on.
 pub record IsKept (p : Protocol) (s : PoolState) : Type 0 where

@@ -10,7 +10,7 @@ use Rattle.pool_outer.specs.declared.gate.Daemon.TheVariants.{Schedd, Startd}
 use Rattle.pool_state.specs.declared.opening.Opening.{Opening}
 use Rattle.pool_state.specs.declared.state.PoolState.{PoolState}
 use Rattle.pool_state.specs.Openings.{CanOpen, IsOpenedBy, is_next_slot, machinery_of, machines_after, new_startd, opening_startds, startds_from}
-use Rattle.pool_tables.specs.DaemonTables.{DaemonsValue, first_startds, first_state, state_of}
+use Rattle.pool_tables.specs.DaemonTables.{DaemonsValue, first_startds, first_state, daemon_state}
 use Rattle.pool_view.proofs.Sameness.{both_true}
 use Rattle.startd_core.specs.Startds.{StartdValue, with_slot}
 
@@ -85,7 +85,7 @@ first_there n boot crashes machine small =
     let within : machine < length (first_startds n boot crashes) = omega (arith, many, small) in
     ap is_some (slice_get-get_or (first_startds n boot crashes) machine (first_state boot Schedd crashes) within)
 
-pub startds_there : (o : Opening) (s : PoolState) (machine : ℕ) → CanOpen o → IsOpenedBy o s → machine < length o.end_marks.items → is_some (state_of (Startd machine) s.daemons) ≡ true
+pub startds_there : (o : Opening) (s : PoolState) (machine : ℕ) → CanOpen o → IsOpenedBy o s → machine < length o.end_marks.items → is_some (daemon_state (Startd machine) s.daemons) ≡ true
 startds_there o s machine can opened small =
-    subst (λ (d : DaemonsValue). is_some (state_of (Startd machine) d) ≡ true) (sym opened.daemons)
+    subst (λ (d : DaemonsValue). is_some (daemon_state (Startd machine) d) ≡ true) (sym opened.daemons)
     (first_there (length (opening_startds o)) (o.pool_boot * 2 ^ 32) o.allow.crashes machine (machines_there o machine can small))

@@ -13,7 +13,7 @@ use Rattle.pool_state.specs.declared.opening.Opening.{Opening}
 use Rattle.pool_state.specs.declared.state.PoolState.{PoolState}
 use Rattle.pool_state.specs.Openings.{CanOpen, IsOpenedBy}
 use Rattle.pool_tables.specs.declared.refusal.StepError.{StepError}
-use Rattle.pool_tables.specs.DaemonTables.{state_of}
+use Rattle.pool_tables.specs.DaemonTables.{daemon_state}
 use Rattle.receipt_roll.specs.Values.{RollMark}
 use Rattle.pool_script.specs.Driven.{IsDriven, is_of}
 use Rattle.pool_script.proofs.Counting.{startds_there}
@@ -37,7 +37,7 @@ driven_on m s new e (Ok stepped) reacts same d =
     }
 driven_on m s new e (Err error) reacts same d = subst (IsDriven m) (sym same) d
 
-pub has_daemon : (who : Daemon) (machines : ℕ) (m : RollMarks) (s : PoolState) → IsDriven m s → machines ≡ length m.ends → is_of who machines ≡ true → IsSome (state_of who s.daemons)
+pub has_daemon : (who : Daemon) (machines : ℕ) (m : RollMarks) (s : PoolState) → IsDriven m s → machines ≡ length m.ends → is_of who machines ≡ true → IsSome (daemon_state who s.daemons)
 has_daemon Schedd machines m s d count is = refl
 has_daemon (Startd machine) machines m s d count is =
     d.startds machine (subst (λ n. machine < n) count (ltb-true machine machines is))

@@ -4,7 +4,7 @@ use Rattle.pool_lines.specs.Marks.{HasMarks, RollMarks}
 use Rattle.pool_outer.specs.declared.gate.Daemon.{Daemon}
 use Rattle.pool_outer.specs.declared.gate.Daemon.TheVariants.{Schedd, Startd, Matchmaker}
 use Rattle.pool_state.specs.declared.state.PoolState.{PoolState}
-use Rattle.pool_tables.specs.DaemonTables.{state_of}
+use Rattle.pool_tables.specs.DaemonTables.{daemon_state}
 
 -- a pool of so many machines has the daemon
 abbrev pub is_of : Daemon → ℕ → Bool
@@ -16,4 +16,4 @@ is_of Matchmaker machines = true
 pub record IsDriven (m : RollMarks) (s : PoolState) : Type 0 where
   pub marks : HasMarks m s
   pub startds : (machine : ℕ) → machine < length m.ends
-      → is_some (state_of (Startd machine) s.daemons) ≡ true
+      → is_some (daemon_state (Startd machine) s.daemons) ≡ true

@@ -4,7 +4,7 @@ use Rattle.pool_machines.specs.Slots.{all_slots}
 use Rattle.pool_outer.specs.declared.gate.Daemon.TheVariants.{Startd}
 use Rattle.pool_shown.specs.declared.slots.ShownSlots.{ShownSlots}
 use Rattle.pool_tables.specs.declared.states.DaemonState.{DaemonState}
-use Rattle.pool_tables.specs.DaemonTables.{DaemonsValue, state_of}
+use Rattle.pool_tables.specs.DaemonTables.{DaemonsValue, daemon_state}
 use Rattle.pool_view.specs.declared.mark.MarkEntry.{MarkEntry}
 use Rattle.pool_view.specs.declared.run.Run.{Run}
 use Rattle.pool_view.specs.declared.view.SlotEntry.{SlotEntry}
@@ -18,7 +18,7 @@ boot_in (Some s) = s.boot
 
 -- the boot of the slot's machine
 abbrev pub boot_at : DaemonsValue → Slot → ℕ
-boot_at d s = boot_in (state_of (Startd s.id.machine) d)
+boot_at d s = boot_in (daemon_state (Startd s.id.machine) d)
 
 abbrev pub run_on : Slot → Option Run
 run_on s = option_map (run_in_slot s.id) (running_of s.state)

@@ -7,7 +7,7 @@ use Rattle.pool_machines.specs.Slots.{slot_at}
 use Rattle.pool_past.specs.FinishedJobs.{is_finished}
 use Rattle.pool_outer.specs.declared.gate.Daemon.TheVariants.{Schedd, Startd}
 use Rattle.pool_state.specs.declared.state.PoolState.{PoolState}
-use Rattle.pool_tables.specs.DaemonTables.{is_up, state_of}
+use Rattle.pool_tables.specs.DaemonTables.{is_up, daemon_state}
 use Rattle.queue_tx.specs.declared.key.Key.TheVariants.{Proc}
 use Rattle.queue_tx.specs.Kinds.{kind_of}
 use Rattle.queue_tx.specs.Queues.{ad_at}
@@ -25,7 +25,7 @@ has_job job s = has_job_by (ad_at (Proc job) s.queue) (is_finished job s.finishe
 
 -- a claim that is asked for or ready names the job; a schedd that is down has none
 abbrev pub is_engaged : JobId → PoolState → Bool
-is_engaged job s = is_up (state_of Schedd s.daemons) && engages_job s.schedd job
+is_engaged job s = is_up (daemon_state Schedd s.daemons) && engages_job s.schedd job
 
 abbrev pub offers_in : Option Slot → ClaimId → Bool
 offers_in None claim = false
@@ -33,5 +33,5 @@ offers_in (Some slot) claim = offers_claim slot.state claim
 
 -- a slot whose startd is up offers the claim
 abbrev pub is_offered : ClaimId → PoolState → Bool
-is_offered claim s = is_up (state_of (Startd claim.no.slot.machine) s.daemons)
+is_offered claim s = is_up (daemon_state (Startd claim.no.slot.machine) s.daemons)
     && offers_in (slot_at claim.no.slot s.machines) claim

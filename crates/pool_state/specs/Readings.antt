@@ -12,7 +12,7 @@ use Rattle.pool_state.specs.declared.state.PoolState.{PoolState}
 use Rattle.pool_state.specs.PoolJobs.{is_engaged}
 use Rattle.pool_state.specs.Refusals.{is_startd_due}
 use Rattle.pool_tables.specs.declared.states.DaemonState.{DaemonState}
-use Rattle.pool_tables.specs.DaemonTables.{is_up, state_of}
+use Rattle.pool_tables.specs.DaemonTables.{is_up, daemon_state}
 use Rattle.queue_tx.specs.declared.kind.JobKind.TheVariants.{Idle}
 use Rattle.queue_tx.specs.Queues.{KeyedAds}
 use Rattle.schedd_core.specs.Schedds.{ScheddValue}
@@ -39,10 +39,10 @@ IsDueUp Matchmaker s reading = ⊥
 
 -- something is due of a daemon, which is up
 abbrev pub IsDue : Daemon → PoolState → ℕ → Type 0
-IsDue who s reading = (is_up (state_of who s.daemons) ≡ true) × IsDueUp who s reading
+IsDue who s reading = (is_up (daemon_state who s.daemons) ≡ true) × IsDueUp who s reading
 
 abbrev pub is_schedd_up : PoolState → Bool
-is_schedd_up s = is_up (state_of Schedd s.daemons)
+is_schedd_up s = is_up (daemon_state Schedd s.daemons)
 
 -- a look of the schedd, which is up, at the periodic expressions of the job is due
 abbrev pub IsCheckDue : JobId → PoolState → ℕ → Type 0

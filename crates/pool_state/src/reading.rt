@@ -7,7 +7,7 @@ ghost use Rattle.pool_state.specs.PoolJobs.{has_job, is_engaged};
 ghost use Rattle.pool_state.specs.Readings.{AreWanted, IsCheckDue, IsDue, IsDueUp, IsLook, IsSomeCheckDue, ad_of_slot, boot_of, hangs_on_slot, hangs_at, is_schedd_up};
 ghost use Rattle.pool_state.specs.Refusals.{is_startd_due};
 ghost use Rattle.pool_tables.specs.declared.refusal.MailError.TheVariants as error;
-ghost use Rattle.pool_tables.specs.DaemonTables.{state_of};
+ghost use Rattle.pool_tables.specs.DaemonTables.{daemon_state};
 ghost use Rattle.pool_tables.specs.MailLists.{IsMailTo, IsNextMail, IsOfPool, mail_error};
 ghost use Rattle.schedd_core.specs.DueChecks.{IsFirstDue, IsPassed};
 
@@ -118,8 +118,8 @@ impl PoolState {
 
     /// The boot of a daemon of the pool. Computes in O(1).
     pub fn boot(&self, who: Daemon) -> u64
-        requires { IsSome (state_of who self.now.daemons) }
-        ensures { result ≡ boot_of (state_of who self.now.daemons) }
+        requires { IsSome (daemon_state who self.now.daemons) }
+        ensures { result ≡ boot_of (daemon_state who self.now.daemons) }
     {
         match self.daemons.get(who) {
             Some(state) => state.boot,

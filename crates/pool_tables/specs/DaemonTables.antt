@@ -43,10 +43,10 @@ first_daemons machines boot crashes = record {
 
 -- ---- how they stand
 
-abbrev pub state_of : Daemon → DaemonsValue → Option DaemonState
-state_of Schedd d = Some d.schedd
-state_of (Startd machine) d = slice_get d.startds machine
-state_of Matchmaker d = Some d.matchmaker
+abbrev pub daemon_state : Daemon → DaemonsValue → Option DaemonState
+daemon_state Schedd d = Some d.schedd
+daemon_state (Startd machine) d = slice_get d.startds machine
+daemon_state Matchmaker d = Some d.matchmaker
 
 abbrev pub is_up : Option DaemonState → Bool
 is_up None = false
@@ -76,7 +76,7 @@ state_refusal who boot (Some s) = if s.up then boot_refusal boot s.boot else Som
 
 -- an event of a daemon that is down, or in another boot
 abbrev pub daemon_refusal : Daemon → ℕ → DaemonsValue → Option StepError
-daemon_refusal who boot d = state_refusal who boot (state_of who d)
+daemon_refusal who boot d = state_refusal who boot (daemon_state who d)
 
 abbrev pub crash_refusal_at : Daemon → Option DaemonState → Option StepError
 crash_refusal_at who None = Some (Down who)
@@ -85,7 +85,7 @@ crash_refusal_at who (Some s) =
 
 -- a crash of a daemon that is down, or that has crashed as often as it may
 abbrev pub crash_refusal : Daemon → DaemonsValue → Option StepError
-crash_refusal who d = crash_refusal_at who (state_of who d)
+crash_refusal who d = crash_refusal_at who (daemon_state who d)
 
 abbrev pub reopen_refusal_at : Daemon → Option DaemonState → Option StepError
 reopen_refusal_at who None = Some (Down who)
@@ -93,7 +93,7 @@ reopen_refusal_at who (Some s) = if s.up then Some (Up who) else None
 
 -- a daemon that is up doesn't come back
 abbrev pub reopen_refusal : Daemon → DaemonsValue → Option StepError
-reopen_refusal who d = reopen_refusal_at who (state_of who d)
+reopen_refusal who d = reopen_refusal_at who (daemon_state who d)
 
 -- ---- what changes
 

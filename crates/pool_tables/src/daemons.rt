@@ -1,7 +1,7 @@
 // Which daemons are up, their boots, and how often they may still crash.
 
 ghost use Rattle.std.specs.Prelude.{◌≡◌, IfOk};
-ghost use Rattle.pool_tables.specs.DaemonTables.{first_daemons, state_of, is_up, first_down, daemon_refusal, crash_refusal, reopen_refusal, crashed, reopened, with_state, set_state};
+ghost use Rattle.pool_tables.specs.DaemonTables.{first_daemons, daemon_state, is_up, first_down, daemon_refusal, crash_refusal, reopen_refusal, crashed, reopened, with_state, set_state};
 
 use crate::copies::copy_list;
 use crate::refusal::StepError;
@@ -72,7 +72,7 @@ impl Daemons {
 
     /// How a daemon stands; none where it isn't of the pool. Computes in O(1).
     pub fn get(&self, who: Daemon) -> Option<DaemonState>
-        ensures { result ≡ state_of who self.now }
+        ensures { result ≡ daemon_state who self.now }
     {
         match who {
             Daemon::Schedd => Some(self.schedd),
@@ -83,7 +83,7 @@ impl Daemons {
 
     /// Whether a daemon is of the pool, and up. Computes in O(1).
     pub fn is_up(&self, who: Daemon) -> bool
-        ensures { result ≡ is_up (state_of who self.now) }
+        ensures { result ≡ is_up (daemon_state who self.now) }
     {
         match self.get(who) {
             Some(state) => state.up,
@@ -136,7 +136,7 @@ impl Daemons {
 
     /// A daemon crashes, where it is of the pool. Computes in O(1).
     pub fn crash(&mut self, who: Daemon)
-        ensures { self.new ≡ with_state who (crashed (state_of who self.old)) self.old }
+        ensures { self.new ≡ with_state who (crashed (daemon_state who self.old)) self.old }
     {
         if let Some(state) = self.get(who) {
             let state = DaemonState {
@@ -150,7 +150,7 @@ impl Daemons {
 
     /// A daemon comes back in that boot, where it is of the pool. Computes in O(1).
     pub fn reopen(&mut self, who: Daemon, boot: u64)
-        ensures { self.new ≡ with_state who (reopened boot (state_of who self.old)) self.old }
+        ensures { self.new ≡ with_state who (reopened boot (daemon_state who self.old)) self.old }
     {
         if let Some(state) = self.get(who) {
             let state = DaemonState {

@@ -22,7 +22,7 @@ use Rattle.pool_passes.proofs.Passes.{own_before, own_fits, own_stands}
 use Rattle.pool_passes.proofs.Rolls.{HasSameRolls, rolls_same}
 use Rattle.pool_state.specs.declared.state.PoolState.{PoolState}
 use Rattle.pool_state.specs.Refusals.{IsRefusal}
-use Rattle.pool_tables.specs.DaemonTables.{state_of}
+use Rattle.pool_tables.specs.DaemonTables.{daemon_state}
 use Rattle.receipt_roll.specs.Values.{RollMark}
 use Rattle.sole_desk.specs.SolePasses.{HasHolder, HasOneMore, SolePassValue, StandsHere}
 
@@ -81,5 +81,5 @@ given_here p e here own given = own_given p.holder p.pool e own here.roll given
 
 -- ---- a pass as it is seen
 -- by an equal one, with its holder
-pub there_where : (p : SolePassValue) (who : Daemon) → HasHolder p.holder p.pool → p.holder ≡ Some who → IsSome (state_of who p.pool.daemons)
+pub there_where : (p : SolePassValue) (who : Daemon) → HasHolder p.holder p.pool → p.holder ≡ Some who → IsSome (daemon_state who p.pool.daemons)
 there_where p who there is = subst (λ h. HasHolder h p.pool) is there

@@ -7,7 +7,7 @@ use Rattle.pool_state.specs.declared.state.PoolState.{PoolState}
 use Rattle.pool_state.specs.Readings.{IsCheckDue, IsDue, boot_of, hangs_on_slot, is_schedd_up}
 use Rattle.pool_tables.specs.declared.refusal.MailError.{MailError}
 use Rattle.pool_tables.specs.declared.refusal.MailError.TheVariants.{Memory}
-use Rattle.pool_tables.specs.DaemonTables.{state_of}
+use Rattle.pool_tables.specs.DaemonTables.{daemon_state}
 use Rattle.pool_tables.specs.MailLists.{IsMailTo, IsNextMail, IsOfPool, mail_error}
 use Rattle.schedd_core.specs.DueChecks.{IsFirstDue}
 
@@ -31,4 +31,4 @@ pub record IsCheckHere (reading : ℕ) (s : PoolState) (answer : Option JobId) :
   pub first : is_schedd_up s ≡ true → IsFirstDue s.schedd s.queue reading answer
 
 abbrev pub IsBootHere : Daemon → PoolState → ℕ → Type 0
-IsBootHere who s answer = answer ≡ boot_of (state_of who s.daemons)
+IsBootHere who s answer = answer ≡ boot_of (daemon_state who s.daemons)

@@ -9,7 +9,7 @@ use Rattle.pool_outer.specs.declared.gate.Daemon.{Daemon}
 use Rattle.pool_outer.specs.declared.gate.Daemon.TheVariants.{Startd}
 use Rattle.pool_passes.specs.Standing.{HasRoll, Stands}
 use Rattle.pool_state.specs.declared.state.PoolState.{PoolState}
-use Rattle.pool_tables.specs.DaemonTables.{state_of}
+use Rattle.pool_tables.specs.DaemonTables.{daemon_state}
 use Rattle.startd_core.specs.Sound.{IsSound}
 use Rattle.startd_core.specs.Startds.{StartdValue}
 use Rattle.startd_slot.specs.declared.slot.Slot.{Slot}
@@ -23,7 +23,7 @@ pub record SolePassValue : Type 0 where
 
 -- the pool has the daemon
 abbrev pub HasHolder : Option Daemon → PoolState → Type 0
-HasHolder holder s = IfSome holder (λ who. IsSome (state_of who s.daemons))
+HasHolder holder s = IfSome holder (λ who. IsSome (daemon_state who s.daemons))
 
 -- one more entry, of this event and this answer, at its place in the history of the pool
 abbrev pub HasOneMore : List Entry → PoolState → Event → Answer → List Entry → Type 0

@@ -1,6 +1,6 @@
 use Rattle.std.proofs.Common.{◌+◌, ap, ◌∙◌, refl}
 use Rattle.pool_state.specs.Readings.{boot_of}
-use Rattle.pool_tables.specs.DaemonTables.{DaemonsValue, state_of}
+use Rattle.pool_tables.specs.DaemonTables.{DaemonsValue, daemon_state}
 use Rattle.pool_moves.specs.Deeds.{at_rest}
 use Rattle.pool_moves.specs.Happens.{ComesBack, IsReopened, boots}
 use Rattle.pool_core.proofs.TooLarge.{large_after}
@@ -10,7 +10,7 @@ pub returns-in-Err-clause-large : goal.returns-in-Err-clause-large
 returns-in-Err-clause-large c = λ is.
     let s = at_rest c.args.state.now in
     let who = c.args.who in
-    large_after (ComesBack who c.args.kept c.args.reading s) (IsReopened who c.args.kept c.args.reading s) (boots (boot_of (state_of who s.daemons) + 1) who) (λ back. refl) (λ back r comes. record { back = back; comes = comes; pool = refl }) (c.in-Err.ensures.large is)
+    large_after (ComesBack who c.args.kept c.args.reading s) (IsReopened who c.args.kept c.args.reading s) (boots (boot_of (daemon_state who s.daemons) + 1) who) (λ back. refl) (λ back r comes. record { back = back; comes = comes; pool = refl }) (c.in-Err.ensures.large is)
 
 pub returns-in-Ok-clause-back : goal.returns-in-Ok-clause-back
 returns-in-Ok-clause-back c =
