@@ -212,16 +212,9 @@ impl Pool {
 }
 
 impl Copied for Pool {
+    /// An equal pool. Computes as the copy of a `PoolState`.
     fn copy(&self, alloc: Global) -> Result<Pool, Memory> {
-        let state = copy_state(alloc, &self.state)?;
+        let state = self.state.copy(alloc)?;
         Ok(Pool { state })
     }
-}
-
-// STAND-IN
-fn copy_state(_: Global, state: &PoolState) -> Result<PoolState, Memory>
-    ensures { IfOk result (λ copied. copied ≡ state.now) }
-{
-    let _ = state;
-    Err(Memory)
 }

@@ -29,7 +29,7 @@ AreMarked mark (r ∷ rs) = IfSome r (IsMarked mark) × AreMarked mark rs
 -- a pool knows rolls by these marks
 pub record HasMarks (m : RollMarks) (s : PoolState) : Type 0 where
   pub log : s.log_mark ≡ m.log
-  pub ends : s.end_marks.items ≡ m.ends
+  pub ends : s.end_marks ≡ m.ends
 
 -- an event may be given to each pool that knows the rolls by these marks
 abbrev pub IsGivenBy : RollMarks → Event → Type 0

@@ -25,7 +25,7 @@ IsOfLog s receipt = receipt.mark ≡ s.log_mark
 
 -- or of the roll of ends of a machine
 abbrev pub IsOfMachine : ℕ → PoolState → ReceiptValue Ending → Type 0
-IsOfMachine machine s receipt = slice_get s.end_marks.items machine ≡ Some receipt.mark
+IsOfMachine machine s receipt = slice_get s.end_marks machine ≡ Some receipt.mark
 
 abbrev pub AreOfMachine : ℕ → PoolState → List (ReceiptValue Ending) → Type 0
 AreOfMachine machine s [] = Unit {0}

@@ -18,10 +18,10 @@ its_roll : (o : Option RollMark) (other : RollMark) → IsSomeAnd o (λ mark. Un
 its_roll None other has = absurd has
 its_roll (Some mark) other has = refl
 
-machine_roll : (machine : ℕ) (s : PoolState) → HasRoll (Some (Startd machine)) s → slice_get s.end_marks.items machine ≡ Some (end_mark_of (Some (Startd machine)) s)
-machine_roll machine s has = its_roll (slice_get s.end_marks.items machine) s.log_mark has
+machine_roll : (machine : ℕ) (s : PoolState) → HasRoll (Some (Startd machine)) s → slice_get s.end_marks machine ≡ Some (end_mark_of (Some (Startd machine)) s)
+machine_roll machine s has = its_roll (slice_get s.end_marks machine) s.log_mark has
 
-of_machine : (machine : ℕ) (s : PoolState) (mark : RollMark) (rs : List (ReceiptValue Ending)) → slice_get s.end_marks.items machine ≡ Some mark → AreOfRoll mark rs → AreOfMachine machine s rs
+of_machine : (machine : ℕ) (s : PoolState) (mark : RollMark) (rs : List (ReceiptValue Ending)) → slice_get s.end_marks machine ≡ Some mark → AreOfRoll mark rs → AreOfMachine machine s rs
 of_machine machine s mark [] is all = tt
 of_machine machine s mark (r ∷ rs) is all = (is ∙ ap (λ (m : RollMark). Some m) (sym all.0), of_machine machine s mark rs is all.1)
 

@@ -29,7 +29,7 @@ use Rattle.pool_passes.proofs.Readers.{some_reads}
 -- the pool has the same rolls, and the same daemons
 pub record HasSameRolls (s new : PoolState) : Type 0 where
   pub log : new.log_mark ≡ s.log_mark
-  pub ends : new.end_marks.items ≡ s.end_marks.items
+  pub ends : new.end_marks ≡ s.end_marks
   pub daemons : (who : Daemon) → is_some (daemon_state who new.daemons) ≡ is_some (daemon_state who s.daemons)
 
 -- ---- the daemons, one of which stands anew

@@ -58,11 +58,11 @@ mark_or (Some mark) other = mark
 -- which the roll of ends of a startd is; of another, whatever
 abbrev pub end_mark_of : Option Daemon → PoolState → RollMark
 end_mark_of (Some (Startd machine)) s =
-    mark_or (slice_get s.end_marks.items machine) s.log_mark
+    mark_or (slice_get s.end_marks machine) s.log_mark
 end_mark_of _ s = s.log_mark
 
 -- the pool has the roll of ends of a startd
 abbrev pub HasRoll : Option Daemon → PoolState → Type 0
 HasRoll (Some (Startd machine)) s =
-    IsSomeAnd (slice_get s.end_marks.items machine) (λ mark. Unit {0})
+    IsSomeAnd (slice_get s.end_marks machine) (λ mark. Unit {0})
 HasRoll _ s = Unit {0}

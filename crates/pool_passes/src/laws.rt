@@ -45,7 +45,7 @@ pub fn rolls_stay()
     ensures log { (s new : PoolState) (e : Event) (r : Stepped) → Reacts s e r new
         → new.log_mark ≡ s.log_mark }
     ensures ends { (s new : PoolState) (e : Event) (r : Stepped) → Reacts s e r new
-        → new.end_marks.items ≡ s.end_marks.items }
+        → new.end_marks ≡ s.end_marks }
     ensures daemons { (s new : PoolState) (e : Event) (r : Stepped) (who : Daemon)
         → Reacts s e r new
         → is_some (daemon_state who new.daemons) ≡ is_some (daemon_state who s.daemons) }

@@ -133,7 +133,7 @@ pub record IsJoined (o : Opening) (startds : List StartdValue) (t : Tables) (p :
   pub ordered : s.ordered ≡ p.ordered
   pub reports : s.reports ≡ []
   pub log_mark : s.log_mark ≡ o.log_mark
-  pub end_marks : s.end_marks.items ≡ o.end_marks.items
+  pub end_marks : s.end_marks ≡ o.end_marks.items
   pub settings : s.settings ≡ o.settings
   pub latest : s.latest ≡ 0
   pub events : s.events ≡ 0
@@ -156,7 +156,7 @@ pub record IsOpenedBy (o : Opening) (s : PoolState) : Type 0 where
   pub ordered : AreRemoved o.queue s.ordered
   pub reports : s.reports ≡ []
   pub log_mark : s.log_mark ≡ o.log_mark
-  pub end_marks : s.end_marks.items ≡ o.end_marks.items
+  pub end_marks : s.end_marks ≡ o.end_marks.items
   pub settings : s.settings ≡ o.settings
   pub latest : s.latest ≡ 0
   pub events : s.events ≡ 0

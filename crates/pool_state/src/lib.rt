@@ -3,6 +3,7 @@
 #![tactic(auto)]
 
 mod asked;
+mod copy;
 mod judging;
 mod opening;
 mod quiet;

@@ -355,7 +355,7 @@ fn join_parts(
         ordered,
         reports: LinkedList::new(alloc),
         log_mark,
-        end_marks,
+        end_marks: Seq::from_vec(end_marks),
         settings,
         latest: 0,
         events: 0,

@@ -1,5 +1,6 @@
 // The pool as a value.
 
+use ad_value::Seq;
 use claim_id::JobId;
 use pool_machines::Machines;
 use pool_mail::{Ending, Settings};
@@ -46,7 +47,7 @@ pub struct PoolState {
     /// Of the log's roll.
     pub log_mark: Mark<Tx>,
     /// Of each machine's roll of ends.
-    pub end_marks: Vec<Mark<Ending>>,
+    pub end_marks: Seq<Mark<Ending>>,
     pub settings: Settings,
     /// The greatest reading, in seconds since 1970-01-01 00:00:00 UTC.
     pub latest: u64,

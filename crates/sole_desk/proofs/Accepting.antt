@@ -41,7 +41,7 @@ same_end_mark : (holder : Option Daemon) (s new : PoolState) → HasSameRolls s 
 same_end_mark None s new same = same.log
 same_end_mark (Some Schedd) s new same = same.log
 same_end_mark (Some (Startd machine)) s new same =
-    ap (λ (xs : List RollMark). mark_or (slice_get xs machine) new.log_mark) same.ends ∙ ap (mark_or (slice_get s.end_marks.items machine)) same.log
+    ap (λ (xs : List RollMark). mark_or (slice_get xs machine) new.log_mark) same.ends ∙ ap (mark_or (slice_get s.end_marks machine)) same.log
 same_end_mark (Some Matchmaker) s new same = same.log
 
 -- ---- a pass, with one entry more
