@@ -9,12 +9,14 @@ use Rattle.pool_links.proofs.Viewing.{linked_shows, shown_safe}
 use Rattle.pool_moves.specs.Given.{IsGiven}
 use Rattle.pool_moves.specs.Happens.{Reacts}
 use Rattle.pool_protocol.specs.ProtocolMove.{protocol_after_all}
+use Rattle.pool_safety.proofs.HistoryKept.{accepted_steps}
+use Rattle.pool_safety.proofs.HistoryLaunches.{accepted_launches}
 use Rattle.pool_safety.proofs.PoolEvents.{event_keeps}
 use Rattle.pool_safety.proofs.PoolOpening.{opening_is_kept}
 use Rattle.pool_safety.proofs.PoolViews.{view_shows}
 use Rattle.pool_safety.proofs.Readers.{some_reads}
 use Rattle.pool_safety.proofs.ScheddFew.{event_few, opening_few}
-use Rattle.pool_safety.specs.Histories.{HasView}
+use Rattle.pool_safety.specs.Histories.{Accepts, HasView, LaunchesRun, MovesView}
 use Rattle.pool_safety.specs.Kept.{GoesOn}
 use Rattle.pool_safety.specs.Parts.{parts_of}
 use Rattle.pool_state.specs.Openings.{CanOpen, IsOpenedBy}
@@ -50,6 +52,20 @@ pub step_kept : (e : Event) (s new : PoolState) (result : Result Stepped StepErr
     → OnOk result (IsRefusal e s None) → IfOk result (λ r. Reacts s e r new) → OnErr result (new ≡ s) → IsKeptPool new
 step_kept e s new (Ok r) k given free reacts same = event_kept e s new r k given free reacts
 step_kept e s new (Err x) k given free reacts same = subst IsKeptPool (sym same) k
+
+-- ---- what an event does to what it shows
+event_accepted : (e : Event) (s new : PoolState) (r : Stepped) → IsGiven e s → IsRefusal e s None → Reacts s e r new → Accepts s e r new
+event_accepted e s new r given free reacts = record { given = given; accepted = free; reacts = reacts }
+
+pub step_moves : (e : Event) (s new : PoolState) (result : Result Stepped StepError) → IsKeptPool s → IsGiven e s
+    → OnOk result (IsRefusal e s None) → IfOk result (λ r. Reacts s e r new) → OnOk result (MovesView e s new)
+step_moves e s new (Ok r) k given free reacts = accepted_steps some_reads.0 some_reads.1 k.protocol s e r new k.kept k.few (event_accepted e s new r given free reacts)
+step_moves e s new (Err x) k given free reacts = tt
+
+pub step_launches : (e : Event) (s new : PoolState) (result : Result Stepped StepError) → IsKeptPool s → IsGiven e s
+    → OnOk result (IsRefusal e s None) → IfOk result (λ r. Reacts s e r new) → IfOk result (λ r. LaunchesRun r.answer new)
+step_launches e s new (Ok r) k given free reacts = accepted_launches some_reads.0 some_reads.1 k.protocol s k.kept e r new (event_accepted e s new r given free reacts)
+step_launches e s new (Err x) k given free reacts = tt
 
 -- ---- what it shows
 pub kept_shows : (s : PoolState) → IsKeptPool s → (v : AbstractPool) × HasView s v

@@ -8,7 +8,7 @@ ghost use Rattle.pool_moves.specs.Given.{IsGiven};
 ghost use Rattle.pool_moves.specs.Happens.{Reacts};
 ghost use Rattle.pool_moves.specs.Limits.{IsWithin};
 ghost use Rattle.pool_past.specs.Clusters.{IsNextCluster};
-ghost use Rattle.pool_safety.specs.Histories.{HasView};
+ghost use Rattle.pool_safety.specs.Histories.{HasView, LaunchesRun, MovesView};
 ghost use Rattle.pool_state.specs.Openings.{CanOpen, IsOpenedBy};
 ghost use Rattle.pool_state.specs.PoolViews.{IsViewOf};
 ghost use Rattle.pool_state.specs.Readings.{AreWanted, IsCheckDue, IsDue, IsLook, ad_of_slot, boot_of, hangs_on_slot, is_schedd_up};
@@ -80,16 +80,19 @@ impl Pool {
         Ok(Pool { state })
     }
 
-    /// An event happens, where it is accepted: then the pool becomes what `Reacts` says of it.
-    /// Where it isn't, the pool is as it was, and the refusal is the first of the order of
-    /// `StepError`. Memory too where a count of 64 bits is at its end. Computes as the daemon's
-    /// call does, and beside that in O(log jobs + size of what is sent and logged); Matches in
+    /// An event happens, where it is accepted: then the pool becomes what `Reacts` says of it. That
+    /// moves the abstract pool that it shows by steps that may be made, and what is launched was
+    /// matched. Where it isn't accepted, the pool is as it was, and the refusal is the first of the
+    /// order of `StepError`. Memory too where a count of 64 bits is at its end. Computes as the
+    /// daemon's call, and beside that in O(log jobs + size of what is sent and logged); Matches in
     /// O(matches * (log jobs + claims + attributes)); Close in O(slots + orders + size of the idle
     /// jobs' ads).
     pub fn step(&mut self, alloc: Global, event: &Event) -> Result<Stepped, StepError>
         requires given { IsGiven event.now self.old }
         ensures accepted { OnOk result (IsRefusal event.now self.old None) }
         ensures reacts { IfOk result (λ r. Reacts self.old event.now r self.new) }
+        ensures moves { OnOk result (MovesView event.now self.old self.new) }
+        ensures launches { IfOk result (λ r. LaunchesRun r.answer self.new) }
         ensures within { OnOk result (IsWithin self.new) }
         ensures refused { IfErr result (λ e. e ≢ error.Memory → IsRefused event.now self.old e) }
         ensures same { OnErr result (self.new ≡ self.old) }

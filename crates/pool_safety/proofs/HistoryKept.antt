@@ -22,7 +22,7 @@ use Rattle.pool_view.specs.AbstractStep.{AbstractStep, Moves, Takes}
 use Rattle.pool_view.specs.Safe.{Safe}
 use Rattle.schedd_core.specs.Reopening.{IsReader}
 use Rattle.schedd_core.specs.ScheddParts.{IsMarked}
-use Rattle.pool_safety.specs.Histories.{Accepts, IsEvent, IsHistory, IsOrderedIn, LeadsTo, OrdersOnly, HasView, Step, latest_in}
+use Rattle.pool_safety.specs.Histories.{Accepts, IsEvent, IsHistory, IsOrderedIn, LeadsTo, MovesView, OrdersOnly, HasView, Step, latest_in}
 use Rattle.pool_safety.specs.Few.{AreFew}
 use Rattle.pool_safety.specs.Kept.{GoesOn, IsKept}
 use Rattle.pool_safety.specs.Orders.{OrdersRemoval}
@@ -127,27 +127,32 @@ module _ (read : List ℕ → Option ClaimId) (reads : IsReader read) where
       let goes = leads_goes p s more t kept past.few leads in
       (all_steps p goes.on.moves, goes_steps p s t w kept goes.on after)
 
-  event_takes : (o : Opening) (list : List Step) (s : PoolState) (e : Event) (r : Stepped) (new : PoolState) (v w : AbstractPool) → IsEvent o list s e r new v w → Moves v w
-  event_takes o list s e r new v w h =
-      let past = history_past o list s h.history in
-      let p : Protocol = record past.protocol { pool = v } in
-      let kept : IsKept p s = with_view past.protocol s v past.kept h.before in
-      let on = accepted_goes p s e r new kept past.few h.accepts in
-      (all_steps p on.moves, goes_steps p s new w kept on h.after)
+  -- an accepted event does so
+  accepted_takes : (p : Protocol) (s : PoolState) (e : Event) (r : Stepped) (new : PoolState) (v w : AbstractPool) → IsKept p s → AreFew s → Accepts s e r new → HasView s v → HasView new w → Moves v w
+  accepted_takes p s e r new v w k few accepts before after =
+      let q : Protocol = record p { pool = v } in
+      let kept : IsKept q s = with_view p s v k before in
+      let on = accepted_goes q s e r new kept few accepts in
+      (all_steps q on.moves, goes_steps q s new w kept on after)
 
-  -- an event does so, and orders only what it asks for
-  pub event_steps : (o : Opening) (list : List Step) (s : PoolState) (e : Event) (r : Stepped) (new : PoolState) (v w : AbstractPool) → IsEvent o list s e r new v w → (steps : List AbstractStep) × Takes v steps w × OrdersOnly e s steps
-  event_steps o list s e r new v w h =
-      let moves = event_takes o list s e r new v w h in
+  -- and orders only what it asks for
+  pub accepted_steps : (p : Protocol) (s : PoolState) (e : Event) (r : Stepped) (new : PoolState) → IsKept p s → AreFew s → Accepts s e r new → MovesView e s new
+  accepted_steps p s e r new k few accepts v w before after =
+      let moves = accepted_takes p s e r new v w k few accepts before after in
       let found : Ordering (OrdersRemoval e s) v w = ordering (OrdersRemoval e s) v moves.0 w known moves.1 in
       (found.steps, found.takes, found.only)
     where
       by : (job : JobId) → IsIn job s.ordered ⊎ OrdersRemoval e s job → IsIn job v.ordered ⊎ OrdersRemoval e s job
-      by job (inl old) = inl ((h.before.ordered job).1 old)
+      by job (inl old) = inl ((before.ordered job).1 old)
       by job (inr new) = inr new
 
       known : (job : JobId) → IsIn job w.ordered → IsIn job v.ordered ⊎ OrdersRemoval e s job
-      known job there = by job ((reacts_leaves s e r new h.accepts.reacts).asked job ((h.after.ordered job).0 there))
+      known job there = by job ((reacts_leaves s e r new accepts.reacts).asked job ((after.ordered job).0 there))
+
+  pub event_steps : (o : Opening) (list : List Step) (s : PoolState) (e : Event) (r : Stepped) (new : PoolState) (v w : AbstractPool) → IsEvent o list s e r new v w → (steps : List AbstractStep) × Takes v steps w × OrdersOnly e s steps
+  event_steps o list s e r new v w h =
+      let past = history_past o list s h.history in
+      accepted_steps past.protocol s e r new past.kept past.few h.accepts v w h.before h.after
 
   -- ---- what lists of events leave
   pub leads_latest : (s : PoolState) (list : List Step) (t : PoolState) → LeadsTo s list t → t.latest ≡ latest_in list s.latest

@@ -27,7 +27,7 @@ use Rattle.startd_core.specs.Startds.{kill_answer}
 use Rattle.startd_core.specs.declared.answer.Permit.{Permit}
 use Rattle.startd_core.specs.declared.answer.StartdAnswer.{StartdAnswer}
 use Rattle.startd_core.specs.declared.answer.StartdAnswer.TheVariants as startd
-use Rattle.pool_safety.specs.Histories.{IsEvent, HasView, Step}
+use Rattle.pool_safety.specs.Histories.{Accepts, IsEvent, HasView, LaunchesRun, Step}
 use Rattle.pool_safety.specs.Kept.{IsKept}
 use Rattle.pool_safety.proofs.HistoryKept.{history_kept}
 use Rattle.pool_safety.proofs.HistoryTraces.{happens_traces}
@@ -97,13 +97,17 @@ module _ (read : List ℕ → Option ClaimId) (reads : IsReader read) (p : Proto
   launches (event.Matches list judged reading) t r w permit free h same shows launched = absurd (none-some permit (sym (silent r _ h.answer refl) ∙ ap permit_of launched))
   launches (event.Close length reading mismatch) t r w permit free h same shows launched = absurd (none-some permit (sym (silent r _ h.1 refl) ∙ ap permit_of launched))
 
+  -- an event that is accepted
+  pub accepted_launches : (e : Event) (r : Stepped) (new : PoolState) → Accepts s e r new → LaunchesRun r.answer new
+  accepted_launches e r new accepts w permit shows launched =
+      let reacts = accepts.reacts in
+      launches e reacts.then_pool r w permit (event_free e s accepts.accepted) reacts.happens
+      (happens_traces read reads e (counts_brought e s) reacts.then_pool r reacts.happens).latest
+      (subst (λ x. HasView x w) reacts.pool shows) launched
+
 -- ---- in a history
 pub launched_matched : (read : List ℕ → Option ClaimId) → IsReader read → (o : Opening) (list : List Step) (s : PoolState) (e : Event) (r : Stepped) (new : PoolState) (v w : AbstractPool) (permit : Permit)
     → IsEvent o list s e r new v w → r.answer ≡ answer.Launch permit → IsPermitOf w permit
 launched_matched read reads o list s e r new v w permit h launched =
     let k = history_kept read reads o list s h.history in
-    let reacts = h.accepts.reacts in
-    launches read reads k.0 s k.1 e reacts.then_pool r w permit
-    (event_free e s h.accepts.accepted) reacts.happens
-    (happens_traces read reads e (counts_brought e s) reacts.then_pool r reacts.happens).latest
-    (subst (λ x. HasView x w) reacts.pool h.after) launched
+    accepted_launches read reads k.0 s k.1 e r new h.accepts w permit h.after launched

@@ -1,9 +1,12 @@
 -- Histories: the events that a pool accepts one after the other, from its opening on.
 use Rattle.std.specs.Prelude.{◌≡◌, ◌⊎◌, ℕ, List, [], ◌∷◌, None}
 use Rattle.claim_id.specs.declared.numbers.JobId.{JobId}
+use Rattle.pool_event.specs.declared.answer.Answer.{Answer}
+use Rattle.pool_event.specs.declared.answer.Answer.TheVariants.{Launch}
 use Rattle.pool_event.specs.declared.answer.Stepped.{Stepped}
 use Rattle.pool_event.specs.declared.event.Event.{Event}
 use Rattle.pool_event.specs.Events.{reading_of}
+use Rattle.pool_links.specs.Launched.{IsPermitOf}
 use Rattle.pool_links.specs.Shown.{ShowsPool}
 use Rattle.pool_moves.specs.Given.{IsGiven}
 use Rattle.pool_moves.specs.Happens.{Reacts, latest_after}
@@ -13,8 +16,9 @@ use Rattle.pool_state.specs.Refusals.{IsRefusal}
 use Rattle.pool_state.specs.declared.opening.Opening.{Opening}
 use Rattle.pool_state.specs.declared.state.PoolState.{PoolState}
 use Rattle.pool_view.specs.AbstractPool.{AbstractPool, IsIn}
-use Rattle.pool_view.specs.AbstractStep.{AbstractStep, Order}
+use Rattle.pool_view.specs.AbstractStep.{AbstractStep, Order, Takes}
 use Rattle.schedd_core.specs.ScheddParts.{IsOrdered}
+use Rattle.startd_core.specs.declared.answer.Permit.{Permit}
 use Rattle.pool_safety.specs.Orders.{OrdersRemoval}
 
 -- an event that is given to a pool, and that nothing refuses, takes it to another with that answer
@@ -67,6 +71,16 @@ OfHistories P = (o : Opening) (list : List Step) (s : PoolState) (v : AbstractPo
 -- a step orders a job's removal only where the event does
 abbrev pub OrdersOnly : Event → PoolState → List AbstractStep → Type 0
 OrdersOnly e s steps = (job : JobId) → IsIn (Order job) steps → OrdersRemoval e s job
+
+-- what is shown is moved by steps that may be made, one after the other
+abbrev pub MovesView : Event → PoolState → PoolState → Type 0
+MovesView e s new = (v w : AbstractPool) → HasView s v → HasView new w
+    → (steps : List AbstractStep) × Takes v steps w × OrdersOnly e s steps
+
+-- what is launched is a run of what is shown, which was matched
+abbrev pub LaunchesRun : Answer → PoolState → Type 0
+LaunchesRun answer new = (w : AbstractPool) (permit : Permit) → HasView new w
+    → answer ≡ Launch permit → IsPermitOf w permit
 
 -- the event e of a pool of a history, which shows v, leads to a pool that shows w
 pub record IsEvent (o : Opening) (list : List Step) (s : PoolState) (e : Event) (r : Stepped)

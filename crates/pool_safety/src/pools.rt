@@ -30,6 +30,7 @@ ghost use Rattle.receipt_roll.specs.Values.{ReceiptValue};
 ghost use Rattle.schedd_core.specs.Reopening.{IsReader};
 ghost use Rattle.schedd_core.specs.ScheddParts.{IsOrdered};
 ghost use Rattle.pool_safety.specs.Few.{AreFew};
+ghost use Rattle.pool_safety.specs.Histories.{Accepts, LaunchesRun, MovesView};
 ghost use Rattle.pool_safety.specs.Kept.{GoesOn, IsKept, at_reading};
 
 /// A pool that has just been opened is kept to a protocol. A queue's keys are in order, and the
@@ -81,6 +82,16 @@ pub fn events_keep_pools()
     ensures { (p : Protocol) (s : PoolState) (e : Event) (r : Stepped) (new : PoolState)
         → IsKept p s → AreFew s → IsGiven e s → IsRefusal e s None → Reacts s e r new
         → GoesOn p new }
+{}
+
+/// It moves what the pool shows by steps that may be made, and orders a job's removal only where it
+/// asks for that. What it launches is a run that is shown, of the permit's job and of what that
+/// job's ad says, and it was started by a match of its slot's ad and its job's.
+pub fn events_move_views()
+    ensures steps { (p : Protocol) (s : PoolState) (e : Event) (r : Stepped) (new : PoolState)
+        → IsKept p s → AreFew s → Accepts s e r new → MovesView e s new }
+    ensures launches { (p : Protocol) (s : PoolState) (e : Event) (r : Stepped) (new : PoolState)
+        → IsKept p s → Accepts s e r new → LaunchesRun r.answer new }
 {}
 
 /// The abstract pool of a view is what the parts of the pool show.

@@ -1,8 +1,9 @@
-use Rattle.std.proofs.Common.{sym, subst}
+use Rattle.std.proofs.Common.{OnOk, sym, subst}
 use Rattle.pool_moves.specs.Deeds.{at_rest}
 use Rattle.pool_moves.specs.Given.{IsGiven}
+use Rattle.pool_safety.specs.Histories.{MovesView}
 use Rattle.pool_state.specs.declared.state.PoolState.{PoolState}
-use Rattle.pool_core.proofs.Keeping.{step_kept}
+use Rattle.pool_core.proofs.Keeping.{step_kept, step_launches, step_moves}
 use Rattle.pool_core.proofs.pool.Pool.step.Goals as goal
 
 pub invariant_of-self : goal.invariant_of-self
@@ -10,3 +11,16 @@ invariant_of-self c =
     let event = c.args.event.now in
     let given = subst (λ (s : PoolState). IsGiven event s) (sym c.self.view_is) c.requires.given in
     step_kept event (at_rest c.self.inside.state) (at_rest c.step.new.state) c.step.result c.self.invariant given c.step.ensures.accepted c.step.ensures.reacts c.step.ensures.same
+
+pub returns-clause-moves : goal.returns-clause-moves
+returns-clause-moves c =
+    let event = c.args.event.now in
+    let given = subst (λ (s : PoolState). IsGiven event s) (sym c.self.view_is) c.requires.given in
+    subst (λ (s : PoolState). OnOk c.step.result (MovesView event s (at_rest c.step.new.state))) c.self.view_is
+    (step_moves event (at_rest c.self.inside.state) (at_rest c.step.new.state) c.step.result c.self.invariant given c.step.ensures.accepted c.step.ensures.reacts)
+
+pub returns-clause-launches : goal.returns-clause-launches
+returns-clause-launches c =
+    let event = c.args.event.now in
+    let given = subst (λ (s : PoolState). IsGiven event s) (sym c.self.view_is) c.requires.given in
+    step_launches event (at_rest c.self.inside.state) (at_rest c.step.new.state) c.step.result c.self.invariant given c.step.ensures.accepted c.step.ensures.reacts
