@@ -1,4 +1,4 @@
-ghost use Rattle.std.specs.Prelude.{◌≡◌, ◌||◌, ℕ, Bool, List, Option, Result, Some, IfOk, OnErr};
+ghost use Rattle.std.specs.Prelude.{◌≡◌, ◌||◌, ℕ, Bool, List, Option, Result, Some, IfErr, IfOk, OnErr};
 ghost use Rattle.ad_tree.specs.Ad.{Attributes};
 ghost use Rattle.claim_id.specs.declared.numbers.JobId.{JobId};
 ghost use Rattle.claim_id.specs.declared.numbers.SlotId.{SlotId};
@@ -7,11 +7,13 @@ ghost use Rattle.desk.specs.Entries.{Gained};
 ghost use Rattle.desk.specs.Given.{IsGivenBy, IsOwn};
 ghost use Rattle.desk.specs.Kinds.{IsKindOf};
 ghost use Rattle.desk.specs.Passes.{Fits, says_closed};
+ghost use Rattle.pool_event.specs.declared.event.Event.{Event};
 ghost use Rattle.pool_event.specs.declared.look.Look.{Look};
 ghost use Rattle.pool_mail.specs.declared.mail.Mail.{Mail};
 ghost use Rattle.pool_mail.specs.declared.matching.Request.{Request};
 ghost use Rattle.pool_outer.specs.declared.gate.Daemon.{Daemon};
 ghost use Rattle.pool_tables.specs.declared.refusal.MailError.{MailError};
+ghost use Rattle.pool_tables.specs.declared.refusal.StepError.{StepError};
 ghost use Rattle.receipt_roll.specs.Values.{RollMark};
 
 use ad_tree::Ad;
@@ -28,7 +30,8 @@ use std::alloc::Global;
 ///
 /// What a desk tells of the pool may have changed at the next call, since others give their events
 /// too. So the answer to each reading call is one that the desk may give then (`gave_next` and its
-/// kin), and nothing more; it also may say which pool that was.
+/// kin), a refusal one that it may give (`gave_refusal`), and nothing more; it also may say which
+/// pool that was.
 pub trait Desk {
     /// The token of one holder.
     type Pass;
@@ -50,6 +53,9 @@ pub trait Desk {
     // ---- of a desk
     // it gave the pass
     ghost gave: { Self → Self.Pass → Type 0 };
+    // why it may refuse an event
+    ghost gave_refusal: { Self → Self.Pass → Event → StepError → Type 0 };
+
     // what it may answer to each reading call
     ghost gave_mail: { Self → Self.Pass → Daemon → ℕ → Result Mail MailError → Type 0 };
 
@@ -89,6 +95,7 @@ pub trait Desk {
         ensures kind { IfOk result (IsKindOf event) }
         ensures fits { IfOk result (Fits (first pass.old) (mine pass.old)) }
         ensures gained { IfOk result (λ a. Gained (mine pass.old) event a (mine pass.new)) }
+        ensures cause { IfErr result (gave_refusal self.now pass.old event) }
         ensures refused { OnErr result (mine pass.new ≡ mine pass.old) }
         ensures closed { closed pass.new ≡ (says_closed result || closed pass.old) };
 

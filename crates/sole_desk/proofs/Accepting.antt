@@ -1,12 +1,10 @@
 -- An accepted event, and what it makes of a pass.
-use Rattle.std.proofs.Common.{◌≡◌, ℕ, List, [], ◌∷◌, ◌++◌, Option, Some, None, IfSome, IsSome, IsSomeAnd, is_some, slice_get, refl, sym, ◌∙◌, ap, subst}
+use Rattle.std.proofs.Common.{◌≡◌, ℕ, List, [], ◌∷◌, ◌++◌, Option, Some, None, IsSome, IsSomeAnd, slice_get, sym, ◌∙◌, ap, subst}
 use Rattle.desk.specs.declared.entry.Entry.{Entry}
 use Rattle.desk.specs.Entries.{entry_of}
 use Rattle.desk.specs.Given.{IsGivenBy, IsOwn}
 use Rattle.desk.specs.Kinds.{IsKindOf}
 use Rattle.desk.specs.Passes.{Fits}
-use Rattle.pool_event.specs.Answers.{kept_of}
-use Rattle.pool_event.specs.declared.answer.Answer.{Answer}
 use Rattle.pool_event.specs.declared.answer.Kept.{Kept}
 use Rattle.pool_event.specs.declared.answer.Stepped.{Stepped}
 use Rattle.pool_event.specs.declared.event.Event.{Event}

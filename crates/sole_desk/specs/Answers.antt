@@ -1,15 +1,23 @@
--- What a desk answers whose pool is known.
-use Rattle.std.specs.Prelude.{◌≡◌, ◌≢◌, ◌⊎◌, ℕ, Bool, true, false, Option, None, Some, Result, IfErr, IfOk, IfSome, IsErrOf}
+-- What a desk answers whose pool is known, and why it refuses an event.
+use Rattle.std.specs.Prelude.{◌≡◌, ◌≢◌, ◌⊎◌, ℕ, Bool, true, Option, Some, Result, IfErr, IfOk, IfSome}
 use Rattle.claim_id.specs.declared.numbers.JobId.{JobId}
+use Rattle.pool_core.specs.Refused.{IsRefused}
+use Rattle.pool_event.specs.declared.event.Event.{Event}
 use Rattle.pool_mail.specs.declared.mail.Mail.{Mail}
 use Rattle.pool_outer.specs.declared.gate.Daemon.{Daemon}
 use Rattle.pool_state.specs.declared.state.PoolState.{PoolState}
 use Rattle.pool_state.specs.Readings.{IsCheckDue, IsDue, boot_of, hangs_on_slot, is_schedd_up}
 use Rattle.pool_tables.specs.declared.refusal.MailError.{MailError}
 use Rattle.pool_tables.specs.declared.refusal.MailError.TheVariants.{Memory}
+use Rattle.pool_tables.specs.declared.refusal.StepError.{StepError}
+use Rattle.pool_tables.specs.declared.refusal.StepError.TheVariants as step_errors
 use Rattle.pool_tables.specs.DaemonTables.{daemon_state}
 use Rattle.pool_tables.specs.MailLists.{IsMailTo, IsNextMail, IsOfPool, mail_error}
 use Rattle.schedd_core.specs.DueChecks.{IsFirstDue}
+
+-- the first cause that holds, or want of memory
+abbrev pub IsRefusedHere : PoolState → Event → StepError → Type 0
+IsRefusedHere s e error = error ≢ step_errors.Memory → IsRefused e s error
 
 -- the mail, or why there is none
 pub record IsMailHere (who : Daemon) (index : ℕ) (s : PoolState) (answer : Result Mail MailError)

@@ -1,10 +1,12 @@
-ghost use Rattle.std.specs.Prelude.{◌≡◌, ◌||◌, [], false, IfOk, OnErr};
+ghost use Rattle.std.specs.Prelude.{◌≡◌, ◌||◌, [], false, None, IfErr, IfOk, OnErr, OnOk};
 ghost use Rattle.desk.specs.Given.{IsGivenBy, IsOwn};
 ghost use Rattle.desk.specs.Kinds.{IsKindOf};
 ghost use Rattle.desk.specs.Passes.{Fits, is_closed, says_closed};
 ghost use Rattle.pool_moves.specs.Answers.{answered};
 ghost use Rattle.pool_moves.specs.Happens.{Reacts};
 ghost use Rattle.pool_passes.specs.Standing.{end_mark_of, logged_before};
+ghost use Rattle.pool_state.specs.Refusals.{IsRefusal};
+ghost use Rattle.sole_desk.specs.Answers.{IsRefusedHere};
 ghost use Rattle.sole_desk.specs.SolePasses.{CanHold, HasHolder, HasOneMore};
 
 use desk::Entry;
@@ -108,7 +110,9 @@ impl SolePass {
         ensures end_mark { end_mark_of self.new.holder self.new.pool
             ≡ end_mark_of self.old.holder self.old.pool }
 
-        // What the pool becomes.
+        // When the pool accepts it, and what it becomes.
+        ensures accepted { OnOk result (IsRefusal event self.old.pool None) }
+        ensures cause { IfErr result (IsRefusedHere self.old.pool event) }
         ensures reacts { IfOk result
             (λ a. Reacts self.old.pool event (answered a) self.new.pool) }
         ensures same { OnErr result (self.new.pool ≡ self.old.pool) }

@@ -1,5 +1,5 @@
 ghost use Rattle.std.specs.Prelude.{◌≡◌};
-ghost use Rattle.sole_desk.specs.Answers.{IsBootHere, IsCheckHere, IsDueHere, IsMailHere, IsNextHere};
+ghost use Rattle.sole_desk.specs.Answers.{IsBootHere, IsCheckHere, IsDueHere, IsMailHere, IsNextHere, IsRefusedHere};
 ghost use Rattle.pool_machines.specs.Slots.{slot_at};
 ghost use Rattle.pool_past.specs.Clusters.{IsNextCluster};
 ghost use Rattle.pool_passes.specs.Standing.{end_mark_of, logged_before};
@@ -37,6 +37,8 @@ impl Desk for SoleDesk {
     ghost closed = { λ p. p.closed };
 
     ghost gave = { λ _ _. Unit {0} };
+
+    ghost gave_refusal = { λ _ p event error. IsRefusedHere p.pool event error };
 
     ghost gave_mail = { λ _ p who index answer. IsMailHere who index p.pool answer };
 

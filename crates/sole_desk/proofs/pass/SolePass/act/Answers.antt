@@ -1,10 +1,7 @@
-use Rattle.std.proofs.Common.{refl, sym, ◌∙◌, ap, subst, ◌≡◌, ◌||◌, [], false, IfOk, OnErr, ℕ, ◌+◌, ◌-◌, ◌*◌, ◌<◌, ◌≤◌, length, ◌/◌, ◌%◌, Bool, true, nat_eq, nat_lt, List, ◌∷◌, ◌++◌, slice_index_or, slice_set, bit_and, bit_or, w8, w32, w64, Bor, MutBor}
+use Rattle.std.proofs.Common.{sym, ◌∙◌, ap, subst, [], List, ◌∷◌, ◌++◌}
 use Rattle.desk.specs.Entries.{entry_of}
 use Rattle.desk.specs.Given.{IsGivenBy, IsOwn}
-use Rattle.desk.specs.Kinds.{IsKindOf}
-use Rattle.desk.specs.Passes.{Fits, is_closed, says_closed}
-use Rattle.pool_passes.specs.Standing.{end_mark_of, logged_before}
-use Rattle.sole_desk.specs.SolePasses.{CanHold}
+use Rattle.pool_passes.specs.Standing.{end_mark_of}
 use Rattle.desk.specs.declared.entry.Entry.{Entry}
 use Rattle.sole_desk.specs.SolePasses.{SolePassValue}
 use Rattle.sole_desk.proofs.Accepting.{Accepted, accepted, given_here}
