@@ -2,13 +2,14 @@
 
 use crate::refusals::write_slot;
 use crate::views::write_view;
-use ad_value::Memory;
+use ad_value::{Copied, Memory};
 use cases::{Case, CaseError, escape};
 use daemon_texts::write_job;
 use pool_core::Pool;
 use pool_event::Look;
 use pool_lines::Fields;
 use pool_mail::{Request, SlotAd};
+use pool_view::View;
 use std::alloc::{AllocError, Global};
 use std::fmt::Write;
 
@@ -41,10 +42,17 @@ fn answer_with(
 }
 
 fn answer_view(alloc: Global, pool: &Pool, out: &mut String) -> Result<(), CaseError> {
-    match pool.view(alloc) {
+    match copied_view(alloc, pool) {
         Ok(view) => write_view(alloc, &view, out),
         Err(Memory) => Err(CaseError::Memory),
     }
+}
+
+// A copy of the view of a copy of the pool: so the cases show that copies are made.
+fn copied_view(alloc: Global, pool: &Pool) -> Result<View, Memory> {
+    let copied = pool.copy(alloc)?;
+    let view = copied.view(alloc)?;
+    view.copy(alloc)
 }
 
 fn answer_wants(alloc: Global, pool: &Pool, out: &mut String) -> Result<(), CaseError> {
