@@ -32,7 +32,7 @@ pub(crate) fn has_submission<D: Store>(log: &Log<D>, number: u64) -> bool {
         return false;
     };
     match log.roll().items().get(number as usize) {
-        Some(tx) => submits(tx, cluster) && log.queue().get(&first_job(cluster)).is_some(),
+        Some(tx) => makes_first_job(tx, cluster) && log.queue().get(&first_job(cluster)).is_some(),
         None => false,
     }
 }
@@ -90,7 +90,8 @@ fn idle(alloc: Global, key: Key) -> Result<Op, Memory>
     })
 }
 
-fn submits(tx: &Tx, cluster: u32) -> bool {
+// Whether a transaction makes the first job of a cluster.
+fn makes_first_job(tx: &Tx, cluster: u32) -> bool {
     match tx.ops() {
         [Op::NewAd { key, .. }, ..] => *key == first_job(cluster),
         _ => false,
