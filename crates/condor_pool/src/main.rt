@@ -3,13 +3,10 @@
 
 ghost use Rattle.std.specs.Prelude.{◌≡◌, All, IfOk, length};
 
-mod question;
-
-use crate::question::{Question, lone_question};
 use pool_master::{MACHINES, Ran, Status, run_pool};
 use pool_outer::{ChildSpawner, OpenGate, Spawner, StdSink, SystemClock};
 use pool_store::DiskStore;
-use run_words::command_line;
+use run_words::{Question, command_line, lone_question};
 use std::alloc::{AllocError, Global};
 use std::fs::File;
 use std::process::{ExitCode, Processes, id};

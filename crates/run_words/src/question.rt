@@ -1,16 +1,16 @@
 ghost use Rattle.std.specs.Prelude.{MatchOption};
 ghost use Rattle.run_words.specs.Words.{texts};
-ghost use Rattle.condor_pool.specs.Questions.{Asks, AsksNothing, AsksAlone, IsNoQuestion};
+ghost use Rattle.run_words.specs.Questions.{Asks, AsksNothing, AsksAlone, IsNoQuestion};
 
 /// What a lone word may ask for.
 #[derive(Clone, Copy)]
-pub(crate) enum Question {
+pub enum Question {
     Help,
     Version,
 }
 
 /// What the words ask for, where there is one word and it asks. Computes in O(1).
-pub(crate) fn lone_question(words: &[String]) -> Option<Question>
+pub fn lone_question(words: &[String]) -> Option<Question>
     ensures { MatchOption result (IsNoQuestion (texts words.now))
         (λ question. AsksAlone question (texts words.now)) }
 {
