@@ -22,6 +22,7 @@ ghost use Rattle.pool_view.specs.Safe.{Safe};
 ghost use Rattle.pool_view.specs.Views.{pool_of};
 ghost use Rattle.schedd_core.specs.DueChecks.{IsFirstDue};
 ghost use Rattle.schedd_core.specs.Reopening.{IsReader};
+ghost use Rattle.schedd_core.specs.ScheddParts.{IsOrdered};
 
 use crate::happening;
 use crate::names::go_over_names;
@@ -73,7 +74,8 @@ impl Pool {
     /// looked at, and tells that its names differ.
     pub fn open(alloc: Global, opening: Opening) -> Result<Pool, Memory>
         requires { CanOpen opening }
-        ensures { IfOk result (IsOpenedBy opening) }
+        ensures opened { IfOk result (IsOpenedBy opening) }
+        ensures ordered { OnOk result (IsOrdered opening.queue) }
     {
         go_over_names(&opening.queue);
         let state = PoolState::open(alloc, opening)?;
