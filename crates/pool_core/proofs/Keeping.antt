@@ -19,6 +19,7 @@ use Rattle.pool_safety.proofs.ScheddFew.{event_few, opening_few}
 use Rattle.pool_safety.specs.Histories.{Accepts, HasView, LaunchesRun, MovesView}
 use Rattle.pool_safety.specs.Kept.{GoesOn}
 use Rattle.pool_safety.specs.Parts.{parts_of}
+use Rattle.pool_safety.specs.Steps.{IsStepOf}
 use Rattle.pool_state.specs.Openings.{CanOpen, IsOpenedBy}
 use Rattle.pool_state.specs.PoolViews.{IsViewOf}
 use Rattle.pool_state.specs.Refusals.{IsRefusal}
@@ -41,7 +42,7 @@ opened_kept o s can queue opened =
 -- ---- an event happens, or is refused
 event_kept : (e : Event) (s new : PoolState) (r : Stepped) → IsKeptPool s → IsGiven e s → IsRefusal e s None → Reacts s e r new → IsKeptPool new
 event_kept e s new r k given free reacts =
-    let on : GoesOn k.protocol new = event_keeps some_reads.0 some_reads.1 k.protocol s k.kept k.few e r new given free reacts in
+    let on : GoesOn k.protocol (IsStepOf e) new = event_keeps some_reads.0 some_reads.1 k.protocol s k.kept k.few e r new given free reacts in
     record {
       protocol = protocol_after_all k.protocol on.moves;
       kept = on.kept;

@@ -26,12 +26,17 @@ use Rattle.pool_safety.specs.Histories.{Accepts, IsEvent, IsHistory, IsOrderedIn
 use Rattle.pool_safety.specs.Few.{AreFew}
 use Rattle.pool_safety.specs.Kept.{GoesOn, IsKept}
 use Rattle.pool_safety.specs.Orders.{OrdersRemoval}
+use Rattle.pool_safety.specs.Steps.{AreStepsOf, IsStepOf}
 use Rattle.pool_safety.proofs.HistorySteps.{Ordering, ordering}
 use Rattle.pool_safety.proofs.HistoryTraces.{Traces, happens_traces}
 use Rattle.pool_safety.proofs.PoolEvents.{event_keeps}
 use Rattle.pool_safety.proofs.ScheddFew.{event_few, opening_few}
-use Rattle.pool_safety.proofs.PoolFrames.{going_on, staying}
+use Rattle.pool_safety.proofs.PoolFrames.{goes_wider, going_on, staying}
 use Rattle.pool_safety.proofs.PoolOpening.{opening_kept, removed_jobs}
+
+-- a list of events may make any step
+abbrev AnyStep : AbstractStep → Type 0
+AnyStep k = Unit {0}
 
 -- what a pool orders doesn't hang on what it counts
 removal_on : (e : Event) (s : PoolState) (c : Counts) (job : JobId) → OrdersRemoval e (record s { counts = c }) job → OrdersRemoval e s job
@@ -74,21 +79,21 @@ module _ (read : List ℕ → Option ClaimId) (reads : IsReader read) where
       by job (inl old) = inl old
       by job (inr new) = inr (removal_on e s _ job new)
 
-  accepted_goes : (p : Protocol) (s : PoolState) (e : Event) (r : Stepped) (new : PoolState) → IsKept p s → AreFew s → Accepts s e r new → GoesOn p new
+  accepted_goes : (p : Protocol) (s : PoolState) (e : Event) (r : Stepped) (new : PoolState) → IsKept p s → AreFew s → Accepts s e r new → GoesOn p (IsStepOf e) new
   accepted_goes p s e r new k few a = event_keeps read reads p s k few e r new a.given a.accepted a.reacts
 
   -- the pools of a history
   record Goes (p : Protocol) (t : PoolState) : Type 0 where
-    on : GoesOn p t
+    on : GoesOn p AnyStep t
     few : AreFew t
 
   -- ---- lists of events
   leads_goes : (p : Protocol) (s : PoolState) (list : List Step) (t : PoolState) → IsKept p s → AreFew s → LeadsTo s list t → Goes p t
-  leads_goes p s [] t k few same = record { on = staying p t (subst (IsKept p) (sym same) k); few = subst AreFew (sym same) few }
+  leads_goes p s [] t k few same = record { on = staying p AnyStep t (subst (IsKept p) (sym same) k); few = subst AreFew (sym same) few }
   leads_goes p s (h ∷ hs) t k few (new, accepts, rest) =
-      let on = accepted_goes p s h.event h.answer new k few accepts in
+      let on = goes_wider p (IsStepOf h.event) AnyStep new (λ l is. tt) (accepted_goes p s h.event h.answer new k few accepts) in
       let later = leads_goes (protocol_after_all p on.moves) new hs t on.kept (event_few read reads p s new h.event h.answer k few accepts.reacts) rest in
-      record { on = going_on p on.moves t on.may later.on; few = later.few }
+      record { on = going_on p AnyStep on.moves t on.may on.steps later.on; few = later.few }
 
   -- each pool of a history is kept, and uses few clusters
   pub record Past (s : PoolState) : Type 0 where
@@ -115,8 +120,8 @@ module _ (read : List ℕ → Option ClaimId) (reads : IsReader read) where
   with_view : (p : Protocol) (s : PoolState) (v : AbstractPool) → IsKept p s → HasView s v → IsKept (record p { pool = v }) s
   with_view p s v k shows = record { linked = view_linked p (parts_of s) v k.linked shows; pending = k.pending; addressed = k.addressed; passed = k.passed; boots = k.boots }
 
-  goes_steps : (p : Protocol) (s t : PoolState) (w : AbstractPool) → IsKept p s → (on : GoesOn p t) → HasView t w → Takes p.pool (all_steps p on.moves) w
-  goes_steps p s t w k on shows = (steps_lead p (parts_of s) (parts_of t) on.moves w k.linked (record { may = on.may; linked = on.kept.linked }) shows).0
+  goes_steps : (p : Protocol) (P : AbstractStep → Type 0) (s t : PoolState) (w : AbstractPool) → IsKept p s → (on : GoesOn p P t) → HasView t w → Takes p.pool (all_steps p on.moves) w
+  goes_steps p P s t w k on shows = (steps_lead p (parts_of s) (parts_of t) on.moves w k.linked (record { may = on.may; linked = on.kept.linked }) shows).0
 
   -- events move what is shown by steps that may be made
   pub history_moves : (o : Opening) (list more : List Step) (s t : PoolState) (v w : AbstractPool) → IsHistory o list s → LeadsTo s more t → HasView s v → HasView t w → Moves v w
@@ -125,22 +130,23 @@ module _ (read : List ℕ → Option ClaimId) (reads : IsReader read) where
       let p : Protocol = record past.protocol { pool = v } in
       let kept : IsKept p s = with_view past.protocol s v past.kept before in
       let goes = leads_goes p s more t kept past.few leads in
-      (all_steps p goes.on.moves, goes_steps p s t w kept goes.on after)
+      (all_steps p goes.on.moves, goes_steps p AnyStep s t w kept goes.on after)
 
-  -- an accepted event does so
-  accepted_takes : (p : Protocol) (s : PoolState) (e : Event) (r : Stepped) (new : PoolState) (v w : AbstractPool) → IsKept p s → AreFew s → Accepts s e r new → HasView s v → HasView new w → Moves v w
+  -- an accepted event does so, by its own
+  accepted_takes : (p : Protocol) (s : PoolState) (e : Event) (r : Stepped) (new : PoolState) (v w : AbstractPool) → IsKept p s → AreFew s → Accepts s e r new → HasView s v → HasView new w
+      → (steps : List AbstractStep) × Takes v steps w × AreStepsOf e steps
   accepted_takes p s e r new v w k few accepts before after =
       let q : Protocol = record p { pool = v } in
       let kept : IsKept q s = with_view p s v k before in
       let on = accepted_goes q s e r new kept few accepts in
-      (all_steps q on.moves, goes_steps q s new w kept on after)
+      (all_steps q on.moves, goes_steps q (IsStepOf e) s new w kept on after, on.steps)
 
   -- and orders only what it asks for
   pub accepted_steps : (p : Protocol) (s : PoolState) (e : Event) (r : Stepped) (new : PoolState) → IsKept p s → AreFew s → Accepts s e r new → MovesView e s new
   accepted_steps p s e r new k few accepts v w before after =
       let moves = accepted_takes p s e r new v w k few accepts before after in
-      let found : Ordering (OrdersRemoval e s) v w = ordering (OrdersRemoval e s) v moves.0 w known moves.1 in
-      (found.steps, found.takes, found.only)
+      let found : Ordering (OrdersRemoval e s) moves.0 v w = ordering (OrdersRemoval e s) v moves.0 w known moves.1 in
+      (found.steps, found.takes, (λ l there. moves.2 l (found.some l there)), found.only)
     where
       by : (job : JobId) → IsIn job s.ordered ⊎ OrdersRemoval e s job → IsIn job v.ordered ⊎ OrdersRemoval e s job
       by job (inl old) = inl ((before.ordered job).1 old)
@@ -149,7 +155,7 @@ module _ (read : List ℕ → Option ClaimId) (reads : IsReader read) where
       known : (job : JobId) → IsIn job w.ordered → IsIn job v.ordered ⊎ OrdersRemoval e s job
       known job there = by job ((reacts_leaves s e r new accepts.reacts).asked job ((after.ordered job).0 there))
 
-  pub event_steps : (o : Opening) (list : List Step) (s : PoolState) (e : Event) (r : Stepped) (new : PoolState) (v w : AbstractPool) → IsEvent o list s e r new v w → (steps : List AbstractStep) × Takes v steps w × OrdersOnly e s steps
+  pub event_steps : (o : Opening) (list : List Step) (s : PoolState) (e : Event) (r : Stepped) (new : PoolState) (v w : AbstractPool) → IsEvent o list s e r new v w → (steps : List AbstractStep) × Takes v steps w × AreStepsOf e steps × OrdersOnly e s steps
   event_steps o list s e r new v w h =
       let past = history_past o list s h.history in
       accepted_steps past.protocol s e r new past.kept past.few h.accepts v w h.before h.after

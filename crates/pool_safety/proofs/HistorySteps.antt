@@ -77,18 +77,26 @@ ordered_on : (v : AbstractPool) (ks : List AbstractStep) (w : AbstractPool) (job
 ordered_on v [] w job takes there = (takes.ordered job).0 there
 ordered_on v (k ∷ ks) w job takes there = ordered_on (view_after v k) ks w job takes.1 (ordered_more v k job there)
 
--- steps that lead from a pool to another, of which each order is one of these
-pub record Ordering (P : JobId → Type 0) (v w : AbstractPool) : Type 0 where
+-- some of the steps that lead from a pool to another, of which each order is one of these
+pub record Ordering (P : JobId → Type 0) (ks : List AbstractStep) (v w : AbstractPool) : Type 0 where
   pub steps : List AbstractStep
   pub takes : Takes v steps w
+  pub some : (k : AbstractStep) → IsIn k steps → IsIn k ks
   pub only : (job : JobId) → IsIn (Order job) steps → P job
 
-with_step : (P : JobId → Type 0) (v : AbstractPool) (xs : List JobId) (k : AbstractStep) (w : AbstractPool) → order_in k ≡ None → SameMembers v.ordered xs → Allowed v k → Ordering P (with_ordered (view_after v k) xs) w → Ordering P (with_ordered v xs) w
-with_step P v xs k w none same may rest =
+-- the first step is kept
+with_first : (k : AbstractStep) (steps ks : List AbstractStep) → ((l : AbstractStep) → IsIn l steps → IsIn l ks) → (l : AbstractStep) → IsIn l (k ∷ steps) → IsIn l (k ∷ ks)
+with_first k steps ks some l (inl is) = inl is
+with_first k steps ks some l (inr there) = inr (some l there)
+
+with_step : (P : JobId → Type 0) (v : AbstractPool) (xs : List JobId) (k : AbstractStep) (ks : List AbstractStep) (w : AbstractPool) → order_in k ≡ None → SameMembers v.ordered xs → Allowed v k
+    → Ordering P ks (with_ordered (view_after v k) xs) w → Ordering P (k ∷ ks) (with_ordered v xs) w
+with_step P v xs k ks w none same may rest =
     let a = alike v xs k none in
     record {
       steps = k ∷ rest.steps;
       takes = (a.allowed (λ job there. (same job).0 there) may, subst (λ u. Takes u rest.steps w) (sym a.after) rest.takes);
+      some = with_first k rest.steps ks rest.some;
       only = λ job there. by job there;
     }
   where
@@ -96,10 +104,11 @@ with_step P v xs k w none same may rest =
     by job (inl is) = absurd (none-some job (sym none ∙ ap order_in (sym is)))
     by job (inr there) = rest.only job there
 
-with_order : (P : JobId → Type 0) (v : AbstractPool) (xs : List JobId) (job : JobId) (w : AbstractPool) → P job → Allowed v (Order job) → Ordering P (with_ordered v (job ∷ xs)) w → Ordering P (with_ordered v xs) w
-with_order P v xs job w asked may rest = record {
+with_order : (P : JobId → Type 0) (v : AbstractPool) (xs : List JobId) (job : JobId) (ks : List AbstractStep) (w : AbstractPool) → P job → Allowed v (Order job) → Ordering P ks (with_ordered v (job ∷ xs)) w → Ordering P (Order job ∷ ks) (with_ordered v xs) w
+with_order P v xs job ks w asked may rest = record {
   steps = Order job ∷ rest.steps;
   takes = (may, rest.takes);
+  some = with_first (Order job) rest.steps ks rest.some;
   only = λ other there. by other there;
 }
   where
@@ -113,6 +122,14 @@ with_order P v xs job w asked may rest = record {
     by : (other : JobId) → (Order other ≡ Order job) ⊎ IsIn (Order other) rest.steps → P other
     by other (inl is) = subst P (sym (ap job_in is)) asked
     by other (inr there) = rest.only other there
+
+without_order : (P : JobId → Type 0) (v : AbstractPool) (job : JobId) (ks : List AbstractStep) (w : AbstractPool) → Ordering P ks v w → Ordering P (Order job ∷ ks) v w
+without_order P v job ks w rest = record {
+  steps = rest.steps;
+  takes = rest.takes;
+  some = λ k there. inr (rest.some k there);
+  only = rest.only;
+}
 
 more_same : (job : JobId) (ys xs : List JobId) → SameMembers ys xs → SameMembers (job ∷ ys) (job ∷ xs)
 more_same job ys xs same x = (there, back)
@@ -136,9 +153,10 @@ no_more job ys xs known same x = (there, λ h. inr ((same x).1 h))
 abbrev AreKnown : (JobId → Type 0) → List JobId → AbstractPool → Type 0
 AreKnown P first w = (job : JobId) → IsIn job w.ordered → IsIn job first ⊎ P job
 
-fewer : (P : JobId → Type 0) (first : List JobId) (v : AbstractPool) (xs : List JobId) (ks : List AbstractStep) (w : AbstractPool) → ((job : JobId) → IsIn job first → IsIn job xs) → SameMembers v.ordered xs → AreKnown P first w → Takes v ks w → Ordering P (with_ordered v xs) w
+fewer : (P : JobId → Type 0) (first : List JobId) (v : AbstractPool) (xs : List JobId) (ks : List AbstractStep) (w : AbstractPool) → ((job : JobId) → IsIn job first → IsIn job xs) → SameMembers v.ordered xs → AreKnown P first w → Takes v ks w → Ordering P ks (with_ordered v xs) w
 fewer P first v xs [] w kept same known takes = record {
   steps = [];
+  some = λ k there. absurd there;
   takes = record {
     moment = takes.moment;
     next = takes.next;
@@ -155,13 +173,13 @@ fewer P first v xs [] w kept same known takes = record {
 fewer P first v xs (Order job ∷ ks) w kept same known takes = by (known job (ordered_on (view_after v (Order job)) ks w job takes.1 (inl refl)))
     (λ ys more members. fewer P first (view_after v (Order job)) ys ks w more members known takes.1)
   where
-    by : IsIn job first ⊎ P job → ((ys : List JobId) → ((j : JobId) → IsIn j first → IsIn j ys) → SameMembers (job ∷ v.ordered) ys → Ordering P (with_ordered (view_after v (Order job)) ys) w) → Ordering P (with_ordered v xs) w
-    by (inl old) rest = rest xs kept (no_more job v.ordered xs (kept job old) same)
-    by (inr asked) rest = with_order P v xs job w asked takes.0 (rest (job ∷ xs) (λ j there. inr (kept j there)) (more_same job v.ordered xs same))
+    by : IsIn job first ⊎ P job → ((ys : List JobId) → ((j : JobId) → IsIn j first → IsIn j ys) → SameMembers (job ∷ v.ordered) ys → Ordering P ks (with_ordered (view_after v (Order job)) ys) w) → Ordering P (Order job ∷ ks) (with_ordered v xs) w
+    by (inl old) rest = without_order P (with_ordered v xs) job ks w (rest xs kept (no_more job v.ordered xs (kept job old) same))
+    by (inr asked) rest = with_order P v xs job ks w asked takes.0 (rest (job ∷ xs) (λ j there. inr (kept j there)) (more_same job v.ordered xs same))
 -- any other step
-fewer P first v xs (k ∷ ks) w kept same known takes = with_step P v xs k w refl same takes.0 (fewer P first (view_after v k) xs ks w kept same known takes.1)
+fewer P first v xs (k ∷ ks) w kept same known takes = with_step P v xs k ks w refl same takes.0 (fewer P first (view_after v k) xs ks w kept same known takes.1)
 
-pub ordering : (P : JobId → Type 0) (v : AbstractPool) (ks : List AbstractStep) (w : AbstractPool) → AreKnown P v.ordered w → Takes v ks w → Ordering P v w
+pub ordering : (P : JobId → Type 0) (v : AbstractPool) (ks : List AbstractStep) (w : AbstractPool) → AreKnown P v.ordered w → Takes v ks w → Ordering P ks v w
 ordering P v ks w known takes = fewer P v.ordered v v.ordered ks w (λ job there. there) (λ job. (λ there. there, λ there. there)) known takes
 
 -- ---- a job that has left the queue

@@ -162,7 +162,7 @@ waits_plan : (o : Option JobPlan) (v : ScheddValue) → (waits_for o v).step.pla
 waits_plan None v = refl
 waits_plan (Some p) v = refl
 
-look_removes : (v : ScheddValue) (q : KeyedAds) (job other : JobId) (reading : ℕ) → ordered_job (after_check v q job reading).step.plan ≡ Some other
+pub look_removes : (v : ScheddValue) (q : KeyedAds) (job other : JobId) (reading : ℕ) → ordered_job (after_check v q job reading).step.plan ≡ Some other
     → (job ≡ other) × IsSomeAnd (ad_at (Proc other) q) (λ ad. is_asked_by ad reading PERIODIC_REMOVE.now ≡ true)
 unfolding after_check
 look_removes v q job other reading is = by (ad_at (Proc job) q) refl is

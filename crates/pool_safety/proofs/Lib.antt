@@ -1,6 +1,9 @@
 pub mod Mailing
 pub mod Refusing
 pub mod Deciding
+pub mod StepKinds
+pub mod StartdSteps
+pub mod ScheddSteps
 pub mod StartdBoots
 pub mod StartdJudged
 pub mod StartdEnded

@@ -1,5 +1,5 @@
 -- Some function reads the texts of claims: it gives the first of all claims with the text.
-use Rattle.std.proofs.Common.{◌≡◌, ◌≢◌, ◌↔◌, ℕ, zero, suc, ◌<◌, ◌^◌, ◌⊎◌, Bool, true, false, cond, ◌&&◌, List, Option, Some, None, is_some, nat_lt, nat_eq, refl, sym, ◌∙◌, ap, inl, inr, subst, arith}
+use Rattle.std.proofs.Common.{◌≡◌, ◌≢◌, ℕ, zero, suc, ◌<◌, ◌^◌, Bool, true, false, ◌&&◌, List, Option, Some, None, is_some, nat_lt, nat_eq, refl, sym, ◌∙◌, ap, subst, arith}
 use Rattle.std.specs.Cmp.Lexicographic.{bytes_decides, pointwise}
 use Rattle.std.proofs.lemmas.Bool.{lt-ltb, ltb-true}
 use Rattle.claim_id.specs.declared.numbers.ClaimId.{ClaimId}

@@ -1,11 +1,12 @@
 -- A pool that is kept goes on: over a reading, over a receipt, and by what its parts are.
-use Rattle.std.proofs.Common.{◌≡◌, ℕ, max, List, [], ◌∷◌, ◌++◌, Option, Some, None, refl, sym, ap, subst}
+use Rattle.std.proofs.Common.{◌≡◌, ℕ, ◌≤◌, max, List, [], ◌∷◌, ◌++◌, Option, Some, None, refl, sym, ap, subst}
+use Rattle.std.proofs.Math.Nat.{le-max_right}
 use Rattle.claim_id.specs.declared.numbers.JobId.{JobId}
 use Rattle.pool_mail.specs.declared.mail.Mail.{Mail}
 use Rattle.pool_pending.specs.declared.pending.Pending.{Pending}
 use Rattle.pool_pending.specs.Receipts.{still_pending}
 use Rattle.pool_protocol.specs.Protocol.{Protocol}
-use Rattle.pool_protocol.specs.ProtocolMove.{ProtocolMove, PassTime, protocol_after_all}
+use Rattle.pool_protocol.specs.ProtocolMove.{ProtocolMove, PassTime, all_steps, protocol_after_all}
 use Rattle.pool_state.specs.declared.state.PoolState.{PoolState}
 use Rattle.pool_outer.specs.declared.gate.Daemon.TheVariants.{Schedd}
 use Rattle.pool_state.specs.Refusals.{Refusal, check_refusal, first_of, jobs_refusal, receive_refusal, schedd_refusal, submit_refusal, tick_refusal, unless_due}
@@ -14,6 +15,7 @@ use Rattle.pool_tables.specs.MailLists.{mail_refusal, with_received}
 use Rattle.schedd_core.specs.Checks.{is_check_due}
 use Rattle.schedd_core.specs.Ticks.{is_due}
 use Rattle.pool_view.specs.AbstractPool.{IsIn, SameMembers}
+use Rattle.pool_view.specs.AbstractStep.{AbstractStep, Time}
 use Rattle.schedd_core.specs.declared.answer.ScheddStep.{ScheddStep}
 use Rattle.schedd_core.specs.DueChecks.{IsPassed}
 use Rattle.schedd_core.specs.Schedds.{ScheddValue}
@@ -30,16 +32,20 @@ use Rattle.pool_moves.specs.Answers.{pending_by}
 use Rattle.pool_moves.specs.Deeds.{receives, schedd_acts}
 use Rattle.pool_safety.specs.Parts.{awaited_of, parts_of}
 use Rattle.pool_safety.specs.Kept.{AreAddressed, AreInBoot, GoesOn, IsKept, IsPendingTx, at_reading}
+use Rattle.pool_safety.specs.Steps.{AreSteps}
 use Rattle.pool_safety.proofs.Mailing.{addressed_among, addressed_posts, mails_among, mails_of_posts, received_among}
 use Rattle.pool_safety.proofs.Refusing.{first_none}
 use Rattle.pool_safety.proofs.ScheddLists.{same_members, swapped}
+use Rattle.pool_safety.proofs.StepKinds.{MakeSteps, first_step, no_steps, steps_append}
 
 -- ---- by what its parts are
 -- parts that events of the crates below make, and the pool's own, are the same
-pub goes_by : (p : Protocol) (ms : List ProtocolMove) (b : PoolParts) (new : PoolState) → StayLinked p ms b → SameParts b (parts_of new) → IsPendingTx new.pending → AreAddressed new.mails.sent → IsPassed new.queue new.schedd → AreInBoot new.daemons new.machines → GoesOn p new
-goes_by p ms b new stay same pending addressed passed boots = record {
+pub goes_by : (p : Protocol) (P : AbstractStep → Type 0) (ms : List ProtocolMove) (b : PoolParts) (new : PoolState) → AreSteps P (all_steps p ms)
+    → StayLinked p ms b → SameParts b (parts_of new) → IsPendingTx new.pending → AreAddressed new.mails.sent → IsPassed new.queue new.schedd → AreInBoot new.daemons new.machines → GoesOn p P new
+goes_by p P ms b new steps stay same pending addressed passed boots = record {
   moves = ms;
   may = stay.may;
+  steps = steps;
   kept = record {
     linked = same_linked (protocol_after_all p ms) b (parts_of new) same stay.linked;
     pending = pending;
@@ -50,18 +56,20 @@ goes_by p ms b new stay same pending addressed passed boots = record {
 }
 
 -- ---- one after the other
-pub goes_further : (p : Protocol) (mid new : PoolState) (first : GoesOn p mid) → GoesOn (protocol_after_all p first.moves) new → GoesOn p new
-goes_further p mid new first second = record {
+pub goes_further : (p : Protocol) (P : AbstractStep → Type 0) (mid new : PoolState) (first : GoesOn p P mid) → GoesOn (protocol_after_all p first.moves) P new → GoesOn p P new
+goes_further p P mid new first second = record {
   moves = first.moves ++ second.moves;
   may = may_append p first.moves second.moves first.may second.may;
+  steps = steps_append P p first.moves second.moves first.steps second.steps;
   kept = subst (λ (q : Protocol). IsKept q new) (sym (after_append p first.moves second.moves)) second.kept;
 }
 
 -- ---- a reading is taken
-pub reading_kept : (p : Protocol) (s : PoolState) (reading : ℕ) → IsKept p s → GoesOn p (at_reading reading s)
-reading_kept p s reading kept = record {
+pub reading_kept : (p : Protocol) (P : AbstractStep → Type 0) (s : PoolState) (reading : ℕ) → ((moment : ℕ) → reading ≤ moment → P (Time moment)) → IsKept p s → GoesOn p P (at_reading reading s)
+reading_kept p P s reading time kept = record {
   moves = PassTime (max s.latest reading) ∷ [];
   may = stay.may;
+  steps = first_step P (Time (max s.latest reading)) [] (time (max s.latest reading) (le-max_right s.latest reading)) (no_steps P);
   kept = record {
     linked = stay.linked;
     pending = kept.pending;
@@ -75,10 +83,11 @@ reading_kept p s reading kept = record {
     stay = time_linked p (parts_of s) reading kept.linked
 
 -- what happens then
-pub goes_after_reading : (p : Protocol) (s new : PoolState) (reading : ℕ) → IsKept p s → ((q : Protocol) → IsKept q (at_reading reading s) → GoesOn q new) → GoesOn p new
-goes_after_reading p s new reading kept more =
-    let first : GoesOn p (at_reading reading s) = reading_kept p s reading kept in
-    goes_further p (at_reading reading s) new first (more (protocol_after_all p first.moves) first.kept)
+pub goes_after_reading : (p : Protocol) (P : AbstractStep → Type 0) (s new : PoolState) (reading : ℕ) → ((moment : ℕ) → reading ≤ moment → P (Time moment)) → IsKept p s
+    → ((q : Protocol) → IsKept q (at_reading reading s) → GoesOn q P new) → GoesOn p P new
+goes_after_reading p P s new reading time kept more =
+    let first : GoesOn p P (at_reading reading s) = reading_kept p P s reading time kept in
+    goes_further p P (at_reading reading s) new first (more (protocol_after_all p first.moves) first.kept)
 
 -- ---- a mail is received
 receipt_kept : (p : Protocol) (s : PoolState) (index : ℕ) → IsKept p s → IsKept p (receives index s)
@@ -103,10 +112,11 @@ receipt_kept p s index kept = record {
   boots = kept.boots;
 }
 
-pub receipt_goes : (p : Protocol) (s : PoolState) (index : ℕ) → GoesOn p s → GoesOn p (receives index s)
-receipt_goes p s index goes = record {
+pub receipt_goes : (p : Protocol) (P : AbstractStep → Type 0) (s : PoolState) (index : ℕ) → GoesOn p P s → GoesOn p P (receives index s)
+receipt_goes p P s index goes = record {
   moves = goes.moves;
   may = goes.may;
+  steps = goes.steps;
   kept = receipt_kept (protocol_after_all p goes.moves) s index goes.kept;
 }
 
@@ -120,10 +130,10 @@ planned_tx number None = tt
 planned_tx number (Some p) = refl
 
 -- the orders of the crates below are taken
-pub schedd_goes : (p : Protocol) (s : PoolState) (ms : List ProtocolMove) (v : ScheddValue) (step : ScheddStep) (orders jobs : List JobId) → IsKept p s
-    → StayLinked p ms (parts_with_schedd v step orders (parts_of s)) → jobs ≡ orders → IsPassed s.queue v → GoesOn p (schedd_acts v step jobs s)
-schedd_goes p s ms v step orders jobs kept stay same passed =
-    goes_by p ms (parts_with_schedd v step orders (parts_of s)) (schedd_acts v step jobs s) stay
+pub schedd_goes : (p : Protocol) (P : AbstractStep → Type 0) (s : PoolState) (ms : List ProtocolMove) (v : ScheddValue) (step : ScheddStep) (orders jobs : List JobId) → IsKept p s → MakeSteps P ms
+    → StayLinked p ms (parts_with_schedd v step orders (parts_of s)) → jobs ≡ orders → IsPassed s.queue v → GoesOn p P (schedd_acts v step jobs s)
+schedd_goes p P s ms v step orders jobs kept make stay same passed =
+    goes_by p P ms (parts_with_schedd v step orders (parts_of s)) (schedd_acts v step jobs s) (make p) stay
     (record {
       moment = refl;
       startds = refl;

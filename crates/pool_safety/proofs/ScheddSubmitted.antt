@@ -1,5 +1,5 @@
 -- A pool to which jobs are submitted is kept.
-use Rattle.std.proofs.Common.{◌≡◌, ℕ, zero, suc, ◌+◌, ◌<◌, Bool, true, false, cond, ◌||◌, List, [], ◌∷◌, ◌++◌, length, map, Ok, Option, Some, None, is_some, append_assoc, append-nil, add-one, add-zero, zero-add, eq-eqb, refl, sym, ◌∙◌, ap, subst, arith}
+use Rattle.std.proofs.Common.{◌≡◌, ℕ, zero, suc, ◌+◌, ◌<◌, ◌≤◌, Bool, true, false, cond, ◌||◌, List, [], ◌∷◌, ◌++◌, length, map, Ok, Option, Some, None, is_some, append_assoc, append-nil, add-one, add-zero, zero-add, eq-eqb, refl, sym, ◌∙◌, ap, subst, arith}
 use Rattle.std.specs.Map.{keys_of, lookup}
 use Rattle.ad_tree.specs.Ad.{Attributes}
 use Rattle.claim_id.specs.declared.numbers.JobId.{JobId}
@@ -28,8 +28,10 @@ use Rattle.pool_moves.specs.Given.{AreIdle}
 use Rattle.pool_moves.specs.Happens.{submission_of}
 use Rattle.pool_moves.specs.Logging.{cluster_jobs}
 use Rattle.pool_safety.specs.Parts.{entry_done_by, finished_in, parts_of}
+use Rattle.pool_view.specs.AbstractStep.{AbstractStep, Time}
 use Rattle.pool_safety.specs.Kept.{GoesOn, IsKept, at_reading}
 use Rattle.pool_safety.proofs.ScheddGoing.{goes_after_reading, goes_by, none_awaited}
+use Rattle.pool_safety.proofs.StepKinds.{no_steps}
 use Rattle.pool_safety.proofs.ScheddLists.{same_members}
 
 -- ---- the jobs with their ads
@@ -135,9 +137,10 @@ brought q header cluster ads ordered idle new h =
     brings_jobs q new (before_jobs header cluster) KIND.now OTHER.now (job_ads cluster 0 ads) ordered (before_header header cluster) (idle_jobs cluster 0 ads idle)
     (subst (λ (ops : List Operation). queue_after q ops ≡ Ok new) (submission_as header cluster ads) h)
 
-submitted_goes : (p : Protocol) (s : PoolState) (cluster : ℕ) (ads : List Attributes) → IsKept p s → s.pending ≡ None → AreIdle ads → is_used s.queue s.finished cluster ≡ false → GoesOn p (record s { pending = Some (submission_of cluster ads s) })
-submitted_goes p s cluster ads kept none idle unused =
-    goes_by p (Pend (submitted jobs) ∷ []) (parts_with_submission (map new_job_id jobs) tx (parts_of s)) (record s { pending = Some (submission_of cluster ads s) })
+submitted_goes : (p : Protocol) (P : AbstractStep → Type 0) (s : PoolState) (cluster : ℕ) (ads : List Attributes) → IsKept p s → s.pending ≡ None → AreIdle ads → is_used s.queue s.finished cluster ≡ false → GoesOn p P (record s { pending = Some (submission_of cluster ads s) })
+submitted_goes p P s cluster ads kept none idle unused =
+    goes_by p P (Pend (submitted jobs) ∷ []) (parts_with_submission (map new_job_id jobs) tx (parts_of s)) (record s { pending = Some (submission_of cluster ads s) })
+    (no_steps P)
     (jobs_submitted p (parts_of s) jobs tx kept.linked (none_awaited s none) (are_new s.queue s.finished cluster 0 ads parts.0 parts.1)
     (brought s.queue (is_some (ad_at Header s.queue)) cluster ads ordered idle))
     (record {
@@ -169,8 +172,8 @@ submitted_goes p s cluster ads kept none idle unused =
     ordered : IsOrdered s.queue
     ordered = (subst (λ (o : Option Awaited). Awaits p (parts_of s) o) (none_awaited s none) kept.linked.awaited).fits.queue
 
-pub unused_goes : (p : Protocol) (s : PoolState) (cluster : ℕ) (ads : List Attributes) (reading : ℕ) → IsKept p s → s.pending ≡ None → AreIdle ads → is_used s.queue s.finished cluster ≡ false
-    → GoesOn p (at_reading reading (record s { pending = Some (submission_of cluster ads s) }))
-unused_goes p s cluster ads reading kept none idle unused =
-    goes_after_reading p s (at_reading reading (record s { pending = Some (submission_of cluster ads s) })) reading kept
-    (λ q now. submitted_goes q (at_reading reading s) cluster ads now none idle unused)
+pub unused_goes : (p : Protocol) (P : AbstractStep → Type 0) (s : PoolState) (cluster : ℕ) (ads : List Attributes) (reading : ℕ) → ((moment : ℕ) → reading ≤ moment → P (Time moment)) → IsKept p s → s.pending ≡ None → AreIdle ads → is_used s.queue s.finished cluster ≡ false
+    → GoesOn p P (at_reading reading (record s { pending = Some (submission_of cluster ads s) }))
+unused_goes p P s cluster ads reading time kept none idle unused =
+    goes_after_reading p P s (at_reading reading (record s { pending = Some (submission_of cluster ads s) })) reading time kept
+    (λ q now. submitted_goes q P (at_reading reading s) cluster ads now none idle unused)

@@ -1,5 +1,6 @@
 -- Each event of a startd that a pool accepts takes it on.
-use Rattle.std.proofs.Common.{◌≡◌, ℕ, ◌+◌, max, List, [], ◌∷◌, Option, Some, None, IfSome, IsSomeAnd, is_some, slice_get, refl, sym, ◌∙◌, ap, subst}
+use Rattle.std.proofs.Common.{◌≡◌, inl, inr, ℕ, ◌+◌, max, List, [], ◌∷◌, Option, Some, None, IfSome, IsSomeAnd, is_some, slice_get, refl, sym, ◌∙◌, ap, subst}
+use Rattle.std.proofs.Math.Nat.{le-max_right}
 use Rattle.std.proofs.lemmas.Option.{none-some}
 use Rattle.ad_eval.specs.Judgement.{Judgement, Mismatch}
 use Rattle.pool_event.specs.declared.answer.Stepped.{Stepped}
@@ -37,6 +38,9 @@ use Rattle.pool_moves.specs.Happens.{Happens, IsReopened, Receives, boots}
 use Rattle.pool_safety.specs.Parts.{parts_of}
 use Rattle.pool_moves.specs.Startds.{IsReceivedStep, IsStartdStep, StartdReceives, ends_after}
 use Rattle.pool_safety.specs.Kept.{GoesOn, IsKept, at_reading}
+use Rattle.pool_safety.specs.Steps.{IsStepOf}
+use Rattle.pool_safety.proofs.StartdSteps.{boots_make, ended_makes, startd_mail_makes, ticks_make}
+use Rattle.pool_safety.proofs.StepKinds.{time_first}
 use Rattle.pool_safety.proofs.Mailing.{mail_in}
 use Rattle.pool_safety.proofs.Refusing.{first_none, goes_to, then_none}
 use Rattle.pool_safety.proofs.StartdBoots.{end_machine, mail_machine}
@@ -103,26 +107,34 @@ got_goes p s new r machine index reading judged kept g =
 
 pub received_goes_on : (p : Protocol) (s new : PoolState) (r : Stepped) (machine boot index reading : ℕ) (judged : Option Judgement) (mismatch : Option Mismatch) → IsKept p s
     → IsEventRefusal (event.Receive (Startd machine) boot index reading judged mismatch) s None → Happens (event.Receive (Startd machine) boot index reading judged mismatch) s new r
-    → GoesOn p (at_reading reading new)
+    → GoesOn p (IsStepOf (event.Receive (Startd machine) boot index reading judged mismatch)) (at_reading reading new)
 received_goes_on p s new r machine boot index reading judged mismatch kept free happens =
     let g = got p s new r machine boot index reading judged mismatch kept free happens in
-    go_on p (PassTime (max s.latest reading) ∷ moves_of_startd_mail g.startd g.sent.mail judged reading) (at_reading reading new) (got_goes p s new r machine index reading judged kept g)
+    let v = (linked_at p s reading kept).startds machine g.startd g.at in
+    go_on p (IsStepOf (event.Receive (Startd machine) boot index reading judged mismatch)) (PassTime (max s.latest reading) ∷ moves_of_startd_mail g.startd g.sent.mail judged reading) (at_reading reading new) (got_goes p s new r machine index reading judged kept g)
+    (time_first (IsStepOf (event.Receive (Startd machine) boot index reading judged mismatch)) p (max s.latest reading) (moves_of_startd_mail g.startd g.sent.mail judged reading) (inl (le-max_right s.latest reading))
+    (startd_mail_makes (IsStepOf (event.Receive (Startd machine) boot index reading judged mismatch)) (λ m. inr (inl tt)) g.startd machine v.sound v.numbered (λ x m is. inr (inr is)) (λ x until is. inr (inr is)) g.sent.mail judged reading))
 
 -- ---- time
-pub ticked_goes_on : (p : Protocol) (s new : PoolState) (r : Stepped) (machine boot reading : ℕ) → IsKept p s → Happens (event.Tick (Startd machine) boot reading) s new r → GoesOn p (at_reading reading new)
+pub ticked_goes_on : (p : Protocol) (s new : PoolState) (r : Stepped) (machine boot reading : ℕ) → IsKept p s → Happens (event.Tick (Startd machine) boot reading) s new r → GoesOn p (IsStepOf (event.Tick (Startd machine) boot reading)) (at_reading reading new)
 unfolding Happens
 ticked_goes_on p s new r machine boot reading kept happens =
     let own : (v : StartdValue) × (slice_get s.machines machine ≡ Some v) × IsStartdStep machine (after_tick v reading) [] s new r = some_and (slice_get s.machines machine) (λ v. IsStartdStep machine (after_tick v reading) [] s new r) happens in
     let v : StartdValue = own.0 in
     let a : After = after_tick v reading in
+    let linked = linked_at p s reading kept in
     let goes = acted_goes p s (startd_acts machine a.startd a.step [] s) machine reading a [] (moves_of_ticks v reading) kept
     (acts s machine v a.startd a.step [] kept.boots own.1 refl)
-    (tick_linked (protocol_at reading s p) (parts_at_reading reading (parts_of s)) machine v (linked_at p s reading kept) own.1 reading) in
-    go_on p (PassTime (max s.latest reading) ∷ moves_of_ticks v reading) (at_reading reading new)
+    (tick_linked (protocol_at reading s p) (parts_at_reading reading (parts_of s)) machine v linked own.1 reading) in
+    let it = linked.startds machine v own.1 in
+    go_on p (IsStepOf (event.Tick (Startd machine) boot reading)) (PassTime (max s.latest reading) ∷ moves_of_ticks v reading) (at_reading reading new)
     (subst (λ t. GoesBy p (PassTime (max s.latest reading) ∷ moves_of_ticks v reading) (at_reading reading t)) (sym own.2.pool) goes)
+    (time_first (IsStepOf (event.Tick (Startd machine) boot reading)) p (max s.latest reading) (moves_of_ticks v reading) (inl (le-max_right s.latest reading))
+    (ticks_make (IsStepOf (event.Tick (Startd machine) boot reading)) (λ m. inr tt) v machine it.sound it.numbered reading))
 
 -- ---- the end of a run
-pub ended_goes_on : (p : Protocol) (s new : PoolState) (r : Stepped) (machine boot reading : ℕ) (receipt : ReceiptValue Ending) → IsKept p s → Happens (event.Ended machine boot receipt reading) s new r → GoesOn p (at_reading reading new)
+pub ended_goes_on : (p : Protocol) (s new : PoolState) (r : Stepped) (machine boot reading : ℕ) (receipt : ReceiptValue Ending) → IsKept p s → Happens (event.Ended machine boot receipt reading) s new r
+    → GoesOn p (IsStepOf (event.Ended machine boot receipt reading)) (at_reading reading new)
 unfolding Happens
 ended_goes_on p s new r machine boot reading receipt kept happens =
     let ending : Ending = receipt.item in
@@ -136,8 +148,11 @@ ended_goes_on p s new r machine boot reading receipt kept happens =
     let goes = acted_goes p s (startd_acts machine a.startd a.step ends s) machine reading a ends (moves_of_ended_run v ending) kept
     (acts s machine v a.startd a.step ends kept.boots own.1 (end_machine v ending reading))
     (end_linked (protocol_at reading s p) (parts_at_reading reading (parts_of s)) machine v ending reading linked own.1) in
-    go_on p (PassTime (max s.latest reading) ∷ moves_of_ended_run v ending) (at_reading reading new)
+    let it = linked.startds machine v own.1 in
+    go_on p (IsStepOf (event.Ended machine boot receipt reading)) (PassTime (max s.latest reading) ∷ moves_of_ended_run v ending) (at_reading reading new)
     (subst (λ t. GoesBy p (PassTime (max s.latest reading) ∷ moves_of_ended_run v ending) (at_reading reading t)) (sym same) goes)
+    (time_first (IsStepOf (event.Ended machine boot receipt reading)) p (max s.latest reading) (moves_of_ended_run v ending) (inl (le-max_right s.latest reading))
+    (ended_makes (IsStepOf (event.Ended machine boot receipt reading)) (λ m. inr (inl tt)) v machine it.sound it.numbered ending (λ x how on is. inr (inr (on, is, refl)))))
 
 -- ---- a boot
 -- a daemon that comes back is there
@@ -146,7 +161,8 @@ daemon_there None machine h = absurd (none-some (error.Down (Startd machine)) (s
 daemon_there (Some old) machine h = (old, refl)
 
 pub booted_goes_on : (p : Protocol) (s new : PoolState) (r : Stepped) (machine reading : ℕ) (kept_tx : Option (ReceiptValue (List Operation))) (ended : List (ReceiptValue Ending)) → IsKept p s
-    → IsEventRefusal (event.Reopen (Startd machine) kept_tx ended reading) s None → Happens (event.Reopen (Startd machine) kept_tx ended reading) s new r → GoesOn p (at_reading reading new)
+    → IsEventRefusal (event.Reopen (Startd machine) kept_tx ended reading) s None → Happens (event.Reopen (Startd machine) kept_tx ended reading) s new r
+    → GoesOn p (IsStepOf (event.Reopen (Startd machine) kept_tx ended reading)) (at_reading reading new)
 unfolding Happens
 booted_goes_on p s new r machine reading kept_tx ended kept free happens =
     let back : IsReopened (Startd machine) (is_some kept_tx) reading s new r = happens in
@@ -157,9 +173,13 @@ booted_goes_on p s new r machine reading kept_tx ended kept free happens =
     let both = then_none (reopen_refusal (Startd machine) s.daemons) (IsReturnRefusal (Startd machine) kept_tx ended s) free in
     let daemon = daemon_there (daemon_state (Startd machine) s.daemons) machine both.0 in
     let same : new ≡ boots boot (Startd machine) (startd_acts machine a.startd a.step [] s) = back.pool ∙ ap (boots boot (Startd machine)) own.2.pool in
+    let linked = linked_at p s reading kept in
+    let it = linked.startds machine v own.1 in
     let next : v.machine.boot + 1 ≡ boot = ap (λ n. n + 1) (sym (kept.boots machine v own.1)) in
     let goes = acted_goes p s (boots boot (Startd machine) (startd_acts machine a.startd a.step [] s)) machine reading a [] (moves_of_boots v) kept
     (acts_in_boot s machine boot daemon.0 a.startd a.step [] kept.boots daemon.1 next)
-    (boot_linked (protocol_at reading s p) (parts_at_reading reading (parts_of s)) machine v (linked_at p s reading kept) own.1 reading) in
-    go_on p (PassTime (max s.latest reading) ∷ moves_of_boots v) (at_reading reading new)
+    (boot_linked (protocol_at reading s p) (parts_at_reading reading (parts_of s)) machine v linked own.1 reading) in
+    go_on p (IsStepOf (event.Reopen (Startd machine) kept_tx ended reading)) (PassTime (max s.latest reading) ∷ moves_of_boots v) (at_reading reading new)
     (subst (λ t. GoesBy p (PassTime (max s.latest reading) ∷ moves_of_boots v) (at_reading reading t)) (sym same) goes)
+    (time_first (IsStepOf (event.Reopen (Startd machine) kept_tx ended reading)) p (max s.latest reading) (moves_of_boots v) (inl (le-max_right s.latest reading))
+    (boots_make (IsStepOf (event.Reopen (Startd machine) kept_tx ended reading)) (λ m. inr (inl tt)) v machine it.sound it.numbered (λ x is. inr (inr (is, refl)))))

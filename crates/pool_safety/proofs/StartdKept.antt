@@ -3,11 +3,12 @@ use Rattle.std.proofs.Common.{◌≡◌, ◌⊎◌, inl, inr, ℕ, max, List, []
 use Rattle.pool_mail.specs.declared.mail.Mail.{Mail}
 use Rattle.pool_outer.specs.declared.gate.Daemon.TheVariants.{Startd}
 use Rattle.pool_protocol.specs.Protocol.{Protocol}
-use Rattle.pool_protocol.specs.ProtocolMove.{ProtocolMove, PassTime, MayAll, protocol_after, protocol_after_all}
+use Rattle.pool_protocol.specs.ProtocolMove.{ProtocolMove, PassTime, MayAll, all_steps, protocol_after, protocol_after_all}
 use Rattle.pool_state.specs.declared.state.PoolState.{PoolState}
 use Rattle.pool_tables.specs.declared.states.DaemonState.{DaemonState}
 use Rattle.pool_view.specs.AbstractPool.{IsIn, SameMembers}
 use Rattle.pool_view.specs.declared.run.EndReport.{EndReport}
+use Rattle.pool_view.specs.AbstractStep.{AbstractStep}
 use Rattle.schedd_core.specs.DueChecks.{IsPassed}
 use Rattle.startd_core.specs.declared.answer.StartdStep.{StartdStep}
 use Rattle.startd_core.specs.Startds.{After, StartdValue}
@@ -22,6 +23,7 @@ use Rattle.pool_moves.specs.Deeds.{posted, receives, startd_acts}
 use Rattle.pool_moves.specs.Happens.{boots}
 use Rattle.pool_safety.specs.Parts.{awaited_of, finished_in, parts_of}
 use Rattle.pool_safety.specs.Kept.{AreInBoot, GoesOn, IsKept, IsPendingTx, at_reading}
+use Rattle.pool_safety.specs.Steps.{AreSteps}
 use Rattle.pool_safety.proofs.Mailing.{AreAmong, addressed_among, addressed_posts, among_self, mails_kept, received_among}
 use Rattle.pool_safety.proofs.StartdBoots.{next_in_boot, still_in_boot}
 
@@ -45,8 +47,9 @@ pub record GoesBy (p : Protocol) (ms : List ProtocolMove) (new : PoolState) : Ty
   pub may : MayAll p ms
   pub kept : IsKept (protocol_after_all p ms) new
 
-pub go_on : (p : Protocol) (ms : List ProtocolMove) (new : PoolState) → GoesBy p ms new → GoesOn p new
-go_on p ms new goes = record { moves = ms; may = goes.may; kept = goes.kept }
+-- whose steps are such ones
+pub go_on : (p : Protocol) (P : AbstractStep → Type 0) (ms : List ProtocolMove) (new : PoolState) → GoesBy p ms new → AreSteps P (all_steps p ms) → GoesOn p P new
+go_on p P ms new goes steps = record { moves = ms; may = goes.may; steps = steps; kept = goes.kept }
 
 -- ---- what a startd has done to a pool
 -- the startd of a machine stands so, has sent mails, and has said the ends of runs

@@ -20,6 +20,7 @@ use Rattle.pool_view.specs.AbstractStep.{AbstractStep, Order, Takes}
 use Rattle.schedd_core.specs.ScheddParts.{IsOrdered}
 use Rattle.startd_core.specs.declared.answer.Permit.{Permit}
 use Rattle.pool_safety.specs.Orders.{OrdersRemoval}
+use Rattle.pool_safety.specs.Steps.{AreStepsOf}
 
 -- an event that is given to a pool, and that nothing refuses, takes it to another with that answer
 pub record Accepts (s : PoolState) (e : Event) (r : Stepped) (new : PoolState) : Type 0 where
@@ -72,10 +73,10 @@ OfHistories P = (o : Opening) (list : List Step) (s : PoolState) (v : AbstractPo
 abbrev pub OrdersOnly : Event → PoolState → List AbstractStep → Type 0
 OrdersOnly e s steps = (job : JobId) → IsIn (Order job) steps → OrdersRemoval e s job
 
--- what is shown is moved by steps that may be made, one after the other
+-- what is shown is moved by steps of the event that may be made, one after the other
 abbrev pub MovesView : Event → PoolState → PoolState → Type 0
 MovesView e s new = (v w : AbstractPool) → HasView s v → HasView new w
-    → (steps : List AbstractStep) × Takes v steps w × OrdersOnly e s steps
+    → (steps : List AbstractStep) × Takes v steps w × AreStepsOf e steps × OrdersOnly e s steps
 
 -- what is launched is a run of what is shown, which was matched
 abbrev pub LaunchesRun : Answer → PoolState → Type 0

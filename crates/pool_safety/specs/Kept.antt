@@ -6,18 +6,20 @@ use Rattle.pool_pending.specs.declared.pending.Pending.{Pending}
 use Rattle.pool_pending.specs.declared.pending.Unfinished.{Unfinished}
 use Rattle.pool_pending.specs.declared.pending.Unfinished.TheVariants.{Submission, Plan}
 use Rattle.pool_protocol.specs.Protocol.{Protocol}
-use Rattle.pool_protocol.specs.ProtocolMove.{ProtocolMove, MayAll, protocol_after_all}
+use Rattle.pool_protocol.specs.ProtocolMove.{ProtocolMove, MayAll, all_steps, protocol_after_all}
 use Rattle.pool_state.specs.declared.state.PoolState.{PoolState}
 use Rattle.pool_state.specs.Readings.{boot_of}
 use Rattle.pool_tables.specs.DaemonTables.{DaemonsValue, daemon_state}
 use Rattle.pool_tables.specs.declared.sent.Sent.{Sent}
 use Rattle.pool_view.specs.AbstractPool.{IsIn}
+use Rattle.pool_view.specs.AbstractStep.{AbstractStep}
 use Rattle.queue_tx.specs.Operations.{Operation}
 use Rattle.schedd_core.specs.DueChecks.{IsPassed}
 use Rattle.schedd_plan.specs.Plans.{plan_ops}
 use Rattle.startd_core.specs.Startds.{StartdValue}
 use Rattle.pool_links.specs.Linked.{IsLinked}
 use Rattle.pool_safety.specs.Parts.{parts_of}
+use Rattle.pool_safety.specs.Steps.{AreSteps}
 
 -- a plan that is to be logged has its own transaction
 abbrev pub IsTxOf : Unfinished → List Operation → Type 0
@@ -45,10 +47,12 @@ pub record IsKept (p : Protocol) (s : PoolState) : Type 0 where
   pub passed : IsPassed s.queue s.schedd
   pub boots : AreInBoot s.daemons s.machines
 
--- moves of the protocol that may be made lead to one to which the pool is kept
-pub record GoesOn (p : Protocol) (new : PoolState) : Type 0 where
+-- moves of the protocol that may be made, and whose steps are such ones, lead to one to which the
+-- pool is kept
+pub record GoesOn (p : Protocol) (P : AbstractStep → Type 0) (new : PoolState) : Type 0 where
   pub moves : List ProtocolMove
   pub may : MayAll p moves
+  pub steps : AreSteps P (all_steps p moves)
   pub kept : IsKept (protocol_after_all p moves) new
 
 -- a reading was taken

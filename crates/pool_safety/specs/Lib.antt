@@ -3,3 +3,4 @@ pub mod Histories
 pub mod Kept
 pub mod Orders
 pub mod Parts
+pub mod Steps

@@ -35,6 +35,7 @@ ghost use Rattle.startd_core.specs.declared.answer.Permit.{Permit};
 ghost use Rattle.pool_safety.specs.Histories.{IsEvent, IsHistory, IsOrderedIn, LeadsTo, OfHistories, OrdersOnly, HasView, Step, latest_in};
 ghost use Rattle.pool_safety.specs.Kept.{IsKept};
 ghost use Rattle.pool_safety.specs.Orders.{OrdersRemoval};
+ghost use Rattle.pool_safety.specs.Steps.{AreStepsOf};
 
 /// Every pool of a history is kept to a protocol. It shows an abstract pool, which its views are.
 pub fn histories_are_kept()
@@ -60,13 +61,14 @@ pub fn histories_are_safe()
     ensures endings_said { OfHistories AreEndingsSaid }
 {}
 
-/// An event moves the abstract pool by steps that may be made, one after the other, and so do all
-/// events from one pool of a history to another. A step of an event orders a job's removal only
-/// where the event does.
+/// An event moves the abstract pool by steps that may be made, one after the other, each of a kind
+/// that the event makes, and so do all events from one pool of a history to another. A step of an
+/// event orders a job's removal only where the event does.
 pub fn events_make_steps()
     ensures event { (o : Opening) (list : List Step) (s : PoolState) (e : Event) (r : Stepped)
         (new : PoolState) (v w : AbstractPool) → IsEvent o list s e r new v w
-        → (steps : List AbstractStep) × Takes v steps w × OrdersOnly e s steps }
+        → (steps : List AbstractStep) × Takes v steps w × AreStepsOf e steps
+        × OrdersOnly e s steps }
     ensures all { (o : Opening) (list more : List Step) (s t : PoolState) (v w : AbstractPool)
         → IsHistory o list s → LeadsTo s more t → HasView s v → HasView t w → Moves v w }
 {}

@@ -22,6 +22,7 @@ ghost use Rattle.receipt_roll.specs.Values.{ReceiptValue};
 ghost use Rattle.schedd_core.specs.Reopening.{IsReader};
 ghost use Rattle.pool_safety.specs.Few.{AreFew};
 ghost use Rattle.pool_safety.specs.Kept.{GoesOn, IsKept, at_reading};
+ghost use Rattle.pool_safety.specs.Steps.{IsStepOf};
 
 /// A schedd that receives a mail keeps the pool, where nothing refuses the event: then nothing is
 /// unfinished.
@@ -30,7 +31,8 @@ pub fn received_mails_keep_pools()
         (judged : Option Judgement) (mismatch : Option Mismatch) → IsKept p s
         → IsEventRefusal (Receive Schedd boot index reading judged mismatch) s None
         → Happens (Receive Schedd boot index reading judged mismatch) s new r
-        → GoesOn p (at_reading reading new) }
+        → GoesOn p (IsStepOf (Receive Schedd boot index reading judged mismatch))
+        (at_reading reading new) }
 {}
 
 /// So does one for which time passes, and one that looks at the periodic expressions of a job, by
@@ -38,10 +40,12 @@ pub fn received_mails_keep_pools()
 pub fn ticks_and_looks_keep_pools()
     ensures ticks { (p : Protocol) (s new : PoolState) (r : Stepped) (boot reading : ℕ)
         → IsKept p s → IsEventRefusal (Tick Schedd boot reading) s None
-        → Happens (Tick Schedd boot reading) s new r → GoesOn p (at_reading reading new) }
+        → Happens (Tick Schedd boot reading) s new r
+        → GoesOn p (IsStepOf (Tick Schedd boot reading)) (at_reading reading new) }
     ensures looks { (p : Protocol) (s new : PoolState) (r : Stepped) (boot : ℕ) (job : JobId)
         (reading : ℕ) → IsKept p s → IsEventRefusal (Check boot job reading) s None
-        → Happens (Check boot job reading) s new r → GoesOn p (at_reading reading new) }
+        → Happens (Check boot job reading) s new r
+        → GoesOn p (IsStepOf (Check boot job reading)) (at_reading reading new) }
 {}
 
 /// Jobs that are submitted keep the pool, where nothing refuses the event and few clusters are
@@ -50,7 +54,8 @@ pub fn submissions_keep_pools()
     ensures { (p : Protocol) (s new : PoolState) (r : Stepped) (boot : ℕ)
         (jobs : List Attributes) (reading : ℕ) → IsKept p s → AreFew s
         → IsGiven (Submit boot jobs reading) s → IsRefusal (Submit boot jobs reading) s None
-        → Happens (Submit boot jobs reading) s new r → GoesOn p (at_reading reading new) }
+        → Happens (Submit boot jobs reading) s new r
+        → GoesOn p (IsStepOf (Submit boot jobs reading)) (at_reading reading new) }
 {}
 
 /// Few clusters are used when a pool opens, and every event leaves it so. `read` is any function
@@ -67,7 +72,8 @@ pub fn clusters_stay_few()
 pub fn logged_transactions_keep_pools()
     ensures { (read : List ℕ → Option ClaimId) → IsReader read → (p : Protocol)
         (s new : PoolState) (r : Stepped) (boot : ℕ) (receipt : ReceiptValue (List Operation))
-        → IsKept p s → Happens (Logged boot receipt) s new r → GoesOn p new }
+        → IsKept p s → Happens (Logged boot receipt) s new r
+        → GoesOn p (IsStepOf (Logged boot receipt)) new }
 {}
 
 /// It is kept where the schedd comes back, with its unfinished transaction and without it.
@@ -75,5 +81,6 @@ pub fn returns_keep_pools()
     ensures { (read : List ℕ → Option ClaimId) → IsReader read → (p : Protocol)
         (s new : PoolState) (r : Stepped) (kept : Option (ReceiptValue (List Operation)))
         (ended : List (ReceiptValue Ending)) (reading : ℕ) → IsKept p s
-        → Happens (Reopen Schedd kept ended reading) s new r → GoesOn p (at_reading reading new) }
+        → Happens (Reopen Schedd kept ended reading) s new r
+        → GoesOn p (IsStepOf (Reopen Schedd kept ended reading)) (at_reading reading new) }
 {}

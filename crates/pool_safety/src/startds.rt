@@ -19,6 +19,7 @@ ghost use Rattle.queue_tx.specs.Operations.{Operation};
 ghost use Rattle.receipt_roll.specs.Values.{ReceiptValue};
 ghost use Rattle.startd_core.specs.declared.answer.Permit.{Permit};
 ghost use Rattle.pool_safety.specs.Kept.{GoesOn, IsKept, at_reading};
+ghost use Rattle.pool_safety.specs.Steps.{IsStepOf};
 
 /// A startd that receives a mail keeps the pool, where nothing refuses the event: then the mail
 /// goes to that startd, and what was judged with it is of the mail's ad and its slot's.
@@ -27,7 +28,8 @@ pub fn received_mails_keep_pools()
         (judged : Option Judgement) (mismatch : Option Mismatch) → IsKept p s
         → IsEventRefusal (Receive (Startd machine) boot index reading judged mismatch) s None
         → Happens (Receive (Startd machine) boot index reading judged mismatch) s new r
-        → GoesOn p (at_reading reading new) }
+        → GoesOn p (IsStepOf (Receive (Startd machine) boot index reading judged mismatch))
+        (at_reading reading new) }
 {}
 
 /// What it launches then is a run of each abstract pool that the pool shows after the event, of the
@@ -47,7 +49,7 @@ pub fn launches_are_matched()
 pub fn ticks_keep_pools()
     ensures { (p : Protocol) (s new : PoolState) (r : Stepped) (machine boot reading : ℕ)
         → IsKept p s → Happens (Tick (Startd machine) boot reading) s new r
-        → GoesOn p (at_reading reading new) }
+        → GoesOn p (IsStepOf (Tick (Startd machine) boot reading)) (at_reading reading new) }
 {}
 
 /// So does one in which the program of a run ends. The end is said of the run that is on its slot,
@@ -56,7 +58,7 @@ pub fn ended_runs_keep_pools()
     ensures { (p : Protocol) (s new : PoolState) (r : Stepped) (machine boot reading : ℕ)
         (receipt : ReceiptValue Ending) → IsKept p s
         → Happens (Ended machine boot receipt reading) s new r
-        → GoesOn p (at_reading reading new) }
+        → GoesOn p (IsStepOf (Ended machine boot receipt reading)) (at_reading reading new) }
 {}
 
 /// And so does one that comes back, in the next boot of its machine, where nothing refuses the
@@ -66,5 +68,6 @@ pub fn boots_keep_pools()
         (kept : Option (ReceiptValue (List Operation))) (ended : List (ReceiptValue Ending))
         → IsKept p s → IsEventRefusal (Reopen (Startd machine) kept ended reading) s None
         → Happens (Reopen (Startd machine) kept ended reading) s new r
-        → GoesOn p (at_reading reading new) }
+        → GoesOn p (IsStepOf (Reopen (Startd machine) kept ended reading))
+        (at_reading reading new) }
 {}
