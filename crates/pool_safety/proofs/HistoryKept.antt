@@ -31,7 +31,7 @@ use Rattle.pool_safety.proofs.HistorySteps.{Ordering, ordering}
 use Rattle.pool_safety.proofs.HistoryTraces.{Traces, happens_traces}
 use Rattle.pool_safety.proofs.PoolEvents.{event_keeps}
 use Rattle.pool_safety.proofs.ScheddFew.{event_few, opening_few}
-use Rattle.pool_safety.proofs.PoolFrames.{goes_wider, going_on, staying}
+use Rattle.pool_safety.proofs.PoolFrames.{goes_of_more, going_on, staying}
 use Rattle.pool_safety.proofs.PoolOpening.{opening_kept, removed_jobs}
 
 -- a list of events may make any step
@@ -91,7 +91,7 @@ module _ (read : List ℕ → Option ClaimId) (reads : IsReader read) where
   leads_goes : (p : Protocol) (s : PoolState) (list : List Step) (t : PoolState) → IsKept p s → AreFew s → LeadsTo s list t → Goes p t
   leads_goes p s [] t k few same = record { on = staying p AnyStep t (subst (IsKept p) (sym same) k); few = subst AreFew (sym same) few }
   leads_goes p s (h ∷ hs) t k few (new, accepts, rest) =
-      let on = goes_wider p (IsStepOf h.event) AnyStep new (λ l is. tt) (accepted_goes p s h.event h.answer new k few accepts) in
+      let on = goes_of_more p (IsStepOf h.event) AnyStep new (λ l is. tt) (accepted_goes p s h.event h.answer new k few accepts) in
       let later = leads_goes (protocol_after_all p on.moves) new hs t on.kept (event_few read reads p s new h.event h.answer k few accepts.reacts) rest in
       record { on = going_on p AnyStep on.moves t on.may on.steps later.on; few = later.few }
 

@@ -11,7 +11,7 @@ use Rattle.pool_state.specs.declared.state.PoolState.{PoolState}
 use Rattle.pool_view.specs.AbstractStep.{AbstractStep, Time}
 use Rattle.pool_safety.specs.Kept.{IsKept, GoesOn, at_reading}
 use Rattle.pool_safety.specs.Steps.{AreSteps}
-use Rattle.pool_safety.proofs.StepKinds.{first_step, no_steps, steps_append, wider_steps}
+use Rattle.pool_safety.proofs.StepKinds.{step_before, no_steps, steps_append, wider_steps}
 
 -- ---- counts, the number of events, and whether the pool is closed
 pub aside_kept : (p : Protocol) (s : PoolState) (c : Counts) (n : ℕ) (closed : Bool) → IsKept p s → IsKept p (record s { counts = c; events = n; closed = closed })
@@ -33,8 +33,8 @@ pub aside_goes : (p : Protocol) (P : AbstractStep → Type 0) (s : PoolState) (c
 aside_goes p P s c n closed on = record { moves = on.moves; may = on.may; steps = on.steps; kept = aside_kept (protocol_after_all p on.moves) s c n closed on.kept }
 
 -- the steps may be of more kinds
-pub goes_wider : (p : Protocol) (P Q : AbstractStep → Type 0) (s : PoolState) → ((k : AbstractStep) → P k → Q k) → GoesOn p P s → GoesOn p Q s
-goes_wider p P Q s more on = record { moves = on.moves; may = on.may; steps = wider_steps P Q (all_steps p on.moves) more on.steps; kept = on.kept }
+pub goes_of_more : (p : Protocol) (P Q : AbstractStep → Type 0) (s : PoolState) → ((k : AbstractStep) → P k → Q k) → GoesOn p P s → GoesOn p Q s
+goes_of_more p P Q s more on = record { moves = on.moves; may = on.may; steps = wider_steps P Q (all_steps p on.moves) more on.steps; kept = on.kept }
 
 -- a reading is taken first
 pub read_on : (p : Protocol) (P : AbstractStep → Type 0) (s new : PoolState) (reading : ℕ) → ((moment : ℕ) → reading ≤ moment → P (Time moment)) → IsKept p s
@@ -43,4 +43,4 @@ read_on p P s new reading time k rest =
     let t = time_linked p (parts_of s) reading k.linked in
     let moment : ℕ = max s.latest reading in
     let ms : List ProtocolMove = PassTime moment ∷ [] in
-    going_on p P ms new t.may (first_step P (Time moment) [] (time moment (le-max_right s.latest reading)) (no_steps P)) (rest (protocol_after_all p ms) (record { linked = t.linked; pending = k.pending; addressed = k.addressed; passed = k.passed; boots = k.boots }))
+    going_on p P ms new t.may (step_before P (Time moment) [] (time moment (le-max_right s.latest reading)) (no_steps P)) (rest (protocol_after_all p ms) (record { linked = t.linked; pending = k.pending; addressed = k.addressed; passed = k.passed; boots = k.boots }))

@@ -36,7 +36,7 @@ use Rattle.pool_safety.specs.Steps.{AreSteps}
 use Rattle.pool_safety.proofs.Mailing.{addressed_among, addressed_posts, mails_among, mails_of_posts, received_among}
 use Rattle.pool_safety.proofs.Refusing.{first_none}
 use Rattle.pool_safety.proofs.ScheddLists.{same_members, swapped}
-use Rattle.pool_safety.proofs.StepKinds.{MakeSteps, first_step, no_steps, steps_append}
+use Rattle.pool_safety.proofs.StepKinds.{MakeSteps, step_before, no_steps, steps_append}
 
 -- ---- by what its parts are
 -- parts that events of the crates below make, and the pool's own, are the same
@@ -69,7 +69,7 @@ pub reading_kept : (p : Protocol) (P : AbstractStep → Type 0) (s : PoolState) 
 reading_kept p P s reading time kept = record {
   moves = PassTime (max s.latest reading) ∷ [];
   may = stay.may;
-  steps = first_step P (Time (max s.latest reading)) [] (time (max s.latest reading) (le-max_right s.latest reading)) (no_steps P);
+  steps = step_before P (Time (max s.latest reading)) [] (time (max s.latest reading) (le-max_right s.latest reading)) (no_steps P);
   kept = record {
     linked = stay.linked;
     pending = kept.pending;

@@ -26,7 +26,7 @@ use Rattle.schedd_plan.specs.declared.plan.JobPlan.{JobPlan}
 use Rattle.schedd_plan.specs.declared.plan.JobPlan.TheVariants as plan
 use Rattle.schedd_plan.specs.Plans.{job_of}
 use Rattle.pool_safety.specs.Steps.{AreSteps, IsQueueStep}
-use Rattle.pool_safety.proofs.StepKinds.{MakeSteps, both_steps, confirms_make, first_step, make_append, no_steps, orders_make, wider_steps}
+use Rattle.pool_safety.proofs.StepKinds.{MakeSteps, both_steps, confirms_make, step_before, make_append, no_steps, orders_make, wider_steps}
 
 -- ---- what may be planned
 module _ (P : AbstractStep → Type 0) where
@@ -37,8 +37,8 @@ module _ (P : AbstractStep → Type 0) where
 
   pub order_makes : (jobs : Jobs) (o : Option JobPlan) → ((job : JobId) → ordered_job o ≡ Some job → P (Order job)) → MakeSteps P (moves_of_order jobs o)
   order_makes jobs None each p = no_steps P
-  order_makes jobs (Some (plan.Remove job)) each p = first_step P (Order job) [] (each job refl) (no_steps P)
-  order_makes jobs (Some (plan.MarkRemoved job)) each p = first_step P (Order job) [] (each job refl) (no_steps P)
+  order_makes jobs (Some (plan.Remove job)) each p = step_before P (Order job) [] (each job refl) (no_steps P)
+  order_makes jobs (Some (plan.MarkRemoved job)) each p = step_before P (Order job) [] (each job refl) (no_steps P)
   order_makes jobs (Some (plan.PutIdle job)) each p = no_steps P
   order_makes jobs (Some (plan.PutHeld job reason)) each p = no_steps P
   order_makes jobs (Some (plan.Complete job completion)) each p = no_steps P
@@ -47,30 +47,30 @@ module _ (P : AbstractStep → Type 0) where
   order_makes jobs (Some (plan.Lengthen job until)) each p = no_steps P
   order_makes jobs (Some (plan.Grant job claim number until header)) each p = no_steps P
 
-  mail_makes : ((job : JobId) → P (Order job)) → (jobs : Jobs) (v : ScheddValue) (q : KeyedAds) (m : Mail) (reading : ℕ) → MakeSteps P (moves_of_mail jobs v q m reading)
-  mail_makes each jobs v q (mail.Remove job) reading = order_makes jobs _ (λ other is. each other)
-  mail_makes each jobs v q (mail.Update slot) reading = pends_make jobs _
-  mail_makes each jobs v q (mail.Matched found) reading = pends_make jobs _
-  mail_makes each jobs v q (mail.Ask claim job ad by_priority) reading = pends_make jobs _
-  mail_makes each jobs v q (mail.Granted claim job) reading = pends_make jobs _
-  mail_makes each jobs v q (mail.Denied claim run job why) reading = pends_make jobs _
-  mail_makes each jobs v q (mail.Activate run job ad until) reading = pends_make jobs _
-  mail_makes each jobs v q (mail.Alive run until) reading = pends_make jobs _
-  mail_makes each jobs v q (mail.Seen run until) reading = pends_make jobs _
-  mail_makes each jobs v q (mail.Stop run) reading = pends_make jobs _
-  mail_makes each jobs v q (mail.Release claim) reading = pends_make jobs _
-  mail_makes each jobs v q (mail.Gone run kept) reading = pends_make jobs _
-  mail_makes each jobs v q (mail.Ended run how) reading = pends_make jobs _
-  mail_makes each jobs v q (mail.Hold job) reading = pends_make jobs _
-  mail_makes each jobs v q (mail.Resume job) reading = pends_make jobs _
+  ordering_mail_makes : ((job : JobId) → P (Order job)) → (jobs : Jobs) (v : ScheddValue) (q : KeyedAds) (m : Mail) (reading : ℕ) → MakeSteps P (moves_of_mail jobs v q m reading)
+  ordering_mail_makes each jobs v q (mail.Remove job) reading = order_makes jobs _ (λ other is. each other)
+  ordering_mail_makes each jobs v q (mail.Update slot) reading = pends_make jobs _
+  ordering_mail_makes each jobs v q (mail.Matched found) reading = pends_make jobs _
+  ordering_mail_makes each jobs v q (mail.Ask claim job ad by_priority) reading = pends_make jobs _
+  ordering_mail_makes each jobs v q (mail.Granted claim job) reading = pends_make jobs _
+  ordering_mail_makes each jobs v q (mail.Denied claim run job why) reading = pends_make jobs _
+  ordering_mail_makes each jobs v q (mail.Activate run job ad until) reading = pends_make jobs _
+  ordering_mail_makes each jobs v q (mail.Alive run until) reading = pends_make jobs _
+  ordering_mail_makes each jobs v q (mail.Seen run until) reading = pends_make jobs _
+  ordering_mail_makes each jobs v q (mail.Stop run) reading = pends_make jobs _
+  ordering_mail_makes each jobs v q (mail.Release claim) reading = pends_make jobs _
+  ordering_mail_makes each jobs v q (mail.Gone run kept) reading = pends_make jobs _
+  ordering_mail_makes each jobs v q (mail.Ended run how) reading = pends_make jobs _
+  ordering_mail_makes each jobs v q (mail.Hold job) reading = pends_make jobs _
+  ordering_mail_makes each jobs v q (mail.Resume job) reading = pends_make jobs _
 
   pub schedd_mail_makes : ((job : JobId) → P (Order job)) → (jobs : Jobs) (a : PoolParts) (m : Mail) (reading : ℕ) → MakeSteps P (moves_of_schedd_mail jobs a m reading)
   schedd_mail_makes each jobs a m reading = make_append P (map TakeOrder (late_order a.finished m)) (moves_of_mail jobs a.schedd a.queue m reading)
-      (orders_make P (late_order a.finished m) (λ job there. each job)) (mail_makes each jobs a.schedd a.queue m reading)
+      (orders_make P (late_order a.finished m) (λ job there. each job)) (ordering_mail_makes each jobs a.schedd a.queue m reading)
 
 -- ---- the change that a plan is
 one_step : (k : AbstractStep) → IsQueueStep k → AreSteps IsQueueStep (k ∷ [])
-one_step k is = first_step IsQueueStep k [] is (no_steps IsQueueStep)
+one_step k is = step_before IsQueueStep k [] is (no_steps IsQueueStep)
 
 idle_steps : (job : JobId) (s : State) → AreSteps IsQueueStep (change_steps (idle_change job s))
 idle_steps job state.Idle = one_step _ tt
@@ -110,7 +110,7 @@ steps_by (Some e) pl = steps_at e.state pl
 
 new_jobs_steps : (jobs : List NewJob) → AreSteps IsQueueStep (map queue_step jobs)
 new_jobs_steps [] = no_steps IsQueueStep
-new_jobs_steps (j ∷ js) = first_step IsQueueStep (queue_step j) (map queue_step js) tt (new_jobs_steps js)
+new_jobs_steps (j ∷ js) = step_before IsQueueStep (queue_step j) (map queue_step js) tt (new_jobs_steps js)
 
 -- ---- what waits, once it is logged
 pub plan_steps : (p : Protocol) (a : PoolParts) (pl : JobPlan) → AwaitsPlan p a pl → AreSteps IsQueueStep (pending_steps p.pending)

@@ -12,9 +12,9 @@ use Rattle.pool_safety.specs.Steps.{AreSteps}
 pub no_steps : (P : AbstractStep → Type 0) → AreSteps P []
 no_steps P k there = absurd there
 
-pub first_step : (P : AbstractStep → Type 0) (k : AbstractStep) (ks : List AbstractStep) → P k → AreSteps P ks → AreSteps P (k ∷ ks)
-first_step P k ks is rest l (inl same) = subst P (sym same) is
-first_step P k ks is rest l (inr there) = rest l there
+pub step_before : (P : AbstractStep → Type 0) (k : AbstractStep) (ks : List AbstractStep) → P k → AreSteps P ks → AreSteps P (k ∷ ks)
+step_before P k ks is rest l (inl same) = subst P (sym same) is
+step_before P k ks is rest l (inr there) = rest l there
 
 pub both_steps : (P : AbstractStep → Type 0) (ks ls : List AbstractStep) → AreSteps P ks → AreSteps P ls → AreSteps P (ks ++ ls)
 both_steps P ks ls first second k there = by (in_both k ks ls there)
@@ -44,7 +44,7 @@ make_append P ms ns first second p = steps_append P p ms ns (first p) (second (p
 
 -- time passes first
 pub time_first : (P : AbstractStep → Type 0) (p : Protocol) (moment : ℕ) (ms : List ProtocolMove) → P (Time moment) → MakeSteps P ms → AreSteps P (all_steps p (PassTime moment ∷ ms))
-time_first P p moment ms is rest = first_step P (Time moment) (all_steps (protocol_after p (PassTime moment)) ms) is (rest (protocol_after p (PassTime moment)))
+time_first P p moment ms is rest = step_before P (Time moment) (all_steps (protocol_after p (PassTime moment)) ms) is (rest (protocol_after p (PassTime moment)))
 
 pub orders_make : (P : AbstractStep → Type 0) (jobs : List JobId) → ((job : JobId) → IsIn job jobs → P (Order job)) → MakeSteps P (map TakeOrder jobs)
 orders_make P [] each p k there = absurd there
