@@ -9,6 +9,10 @@ use Rattle.pool_links.proofs.Viewing.{linked_shows, shown_safe}
 use Rattle.pool_moves.specs.Given.{IsGiven}
 use Rattle.pool_moves.specs.Happens.{Reacts}
 use Rattle.pool_protocol.specs.ProtocolMove.{protocol_after_all}
+use Rattle.pool_moves.specs.Limits.{IsWithin}
+use Rattle.pool_core.proofs.CountedSteps.{opening_within}
+use Rattle.pool_safety.proofs.Counting.{event_counted, opening_counted}
+use Rattle.pool_safety.proofs.FewJobs.{event_few_jobs, opening_few_jobs}
 use Rattle.pool_safety.proofs.HistoryKept.{accepted_steps}
 use Rattle.pool_safety.proofs.HistoryLaunches.{accepted_launches}
 use Rattle.pool_safety.proofs.PoolEvents.{event_keeps}
@@ -37,22 +41,25 @@ use Rattle.schedd_core.specs.ScheddParts.{IsOrdered}
 pub opened_kept : (o : Opening) (s : PoolState) → CanOpen o → IsOrdered o.queue → IsOpenedBy o s → IsKeptPool s
 opened_kept o s can queue opened =
     let k = opening_is_kept o s can queue opened in
-    record { protocol = k.0; kept = k.1; few = opening_few o s can opened }
+    record { protocol = k.0; kept = k.1; few = opening_few o s can opened; counted = opening_counted o s opened; few_jobs = opening_few_jobs o s can opened; within = opening_within o s can opened }
 
 -- ---- an event happens, or is refused
-event_kept : (e : Event) (s new : PoolState) (r : Stepped) → IsKeptPool s → IsGiven e s → IsRefusal e s None → Reacts s e r new → IsKeptPool new
-event_kept e s new r k given free reacts =
+event_kept : (e : Event) (s new : PoolState) (r : Stepped) → IsKeptPool s → IsGiven e s → IsRefusal e s None → Reacts s e r new → IsWithin new → IsKeptPool new
+event_kept e s new r k given free reacts within =
     let on : GoesOn k.protocol (IsStepOf e) new = event_keeps some_reads.0 some_reads.1 k.protocol s k.kept k.few e r new given free reacts in
     record {
       protocol = protocol_after_all k.protocol on.moves;
       kept = on.kept;
       few = event_few some_reads.0 some_reads.1 k.protocol s new e r k.kept k.few reacts;
+      counted = event_counted some_reads.0 some_reads.1 k.protocol s new e r k.kept k.counted reacts;
+      few_jobs = event_few_jobs some_reads.0 some_reads.1 s k.few_jobs e r new free reacts;
+      within = within;
     }
 
 pub step_kept : (e : Event) (s new : PoolState) (result : Result Stepped StepError) → IsKeptPool s → IsGiven e s
-    → OnOk result (IsRefusal e s None) → IfOk result (λ r. Reacts s e r new) → OnErr result (new ≡ s) → IsKeptPool new
-step_kept e s new (Ok r) k given free reacts same = event_kept e s new r k given free reacts
-step_kept e s new (Err x) k given free reacts same = subst IsKeptPool (sym same) k
+    → OnOk result (IsRefusal e s None) → IfOk result (λ r. Reacts s e r new) → OnOk result (IsWithin new) → OnErr result (new ≡ s) → IsKeptPool new
+step_kept e s new (Ok r) k given free reacts within same = event_kept e s new r k given free reacts within
+step_kept e s new (Err x) k given free reacts within same = subst IsKeptPool (sym same) k
 
 -- ---- what an event does to what it shows
 event_accepted : (e : Event) (s new : PoolState) (r : Stepped) → IsGiven e s → IsRefusal e s None → Reacts s e r new → Accepts s e r new

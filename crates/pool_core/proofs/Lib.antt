@@ -1,4 +1,5 @@
 pub mod Causes
+pub mod CountedSteps
 pub mod Counting
 pub mod Growing
 pub mod Keeping

@@ -1,11 +1,17 @@
 -- What always holds of a pool.
 use Rattle.pool_protocol.specs.Protocol.{Protocol}
+use Rattle.pool_moves.specs.Limits.{IsWithin}
+use Rattle.pool_safety.specs.Counted.{HasFewJobs, IsCounted}
 use Rattle.pool_safety.specs.Few.{AreFew}
 use Rattle.pool_safety.specs.Kept.{IsKept}
 use Rattle.pool_state.specs.declared.state.PoolState.{PoolState}
 
--- it is kept to a protocol of its daemons, and few clusters are used
+-- It is kept to a protocol of its daemons, few clusters are used, its jobs and ads are counted, and
+-- it has no more jobs and no more bytes of ads than it may.
 pub record IsKeptPool (s : PoolState) : Type 0 where
   pub protocol : Protocol
   pub kept : IsKept protocol s
   pub few : AreFew s
+  pub counted : IsCounted s
+  pub few_jobs : HasFewJobs s
+  pub within : IsWithin s

@@ -1,4 +1,4 @@
-ghost use Rattle.std.specs.Prelude.{◌≡◌, ◌≢◌, ◌⊎◌, ℕ, List, Option, false, true, None, Some, IfErr, IfOk, IfSome, IsErrOf, IsSome, OnErr, OnOk};
+ghost use Rattle.std.specs.Prelude.{◌≡◌, ◌≢◌, ◌⊎◌, ◌≤◌, ℕ, List, Option, false, true, None, Some, IfErr, IfOk, IfSome, IsErrOf, IsSome, OnErr, OnOk};
 ghost use Rattle.claim_id.specs.declared.numbers.ClaimId.{ClaimId};
 ghost use Rattle.pool_core.specs.KeptPools.{IsKeptPool};
 ghost use Rattle.pool_core.specs.Refused.{IsRefused};
@@ -8,8 +8,9 @@ ghost use Rattle.pool_moves.specs.Given.{IsGiven};
 ghost use Rattle.pool_moves.specs.Happens.{Reacts};
 ghost use Rattle.pool_moves.specs.Limits.{IsWithin};
 ghost use Rattle.pool_past.specs.Clusters.{IsNextCluster};
+ghost use Rattle.pool_safety.specs.Counted.{CountsBytes, HasFewJobs, held_count};
 ghost use Rattle.pool_safety.specs.Histories.{HasView, LaunchesRun, MovesView};
-ghost use Rattle.pool_state.specs.Openings.{CanOpen, IsOpenedBy};
+ghost use Rattle.pool_state.specs.Openings.{CanOpen, IsJobCount, IsOpenedBy};
 ghost use Rattle.pool_state.specs.PoolViews.{IsViewOf};
 ghost use Rattle.pool_state.specs.Readings.{AreWanted, IsCheckDue, IsDue, IsLook, ad_of_slot, boot_of, hangs_on_slot, is_schedd_up};
 ghost use Rattle.pool_state.specs.Refusals.{IsRefusal};
@@ -84,8 +85,9 @@ impl Pool {
 
     /// An event happens, where it is accepted: then the pool becomes what `Reacts` says of it. That
     /// moves the abstract pool that it shows by steps that may be made, and what is launched was
-    /// matched. Where it isn't accepted, the pool is as it was, and the refusal is the first of the
-    /// order of `StepError`. Memory too where a count of 64 bits is at its end. Computes as the
+    /// matched. Counted are the bytes that it brings, and those that the queue and all mails have
+    /// more by it. Where it isn't accepted, the pool is as it was, and the refusal is the first of
+    /// the order of `StepError`. Memory too where a count of 64 bits is at its end. Computes as the
     /// daemon's call, and beside that in O(log jobs + size of what is sent and logged); Matches in
     /// O(matches * (log jobs + claims + attributes)); Close in O(slots + orders + size of the idle
     /// jobs' ads).
@@ -95,6 +97,7 @@ impl Pool {
         ensures reacts { IfOk result (λ r. Reacts self.old event.now r self.new) }
         ensures moves { OnOk result (MovesView event.now self.old self.new) }
         ensures launches { IfOk result (λ r. LaunchesRun r.answer self.new) }
+        ensures counted { OnOk result (CountsBytes event.now self.old self.new) }
         ensures within { OnOk result (IsWithin self.new) }
         ensures refused { IfErr result (λ e. e ≢ error.Memory → IsRefused event.now self.old e) }
         ensures same { OnErr result (self.new ≡ self.old) }
@@ -103,11 +106,17 @@ impl Pool {
     }
 
     /// What every pool is: kept to a protocol of its daemons, with few clusters used. It shows an
-    /// abstract pool, and whichever it shows is safe. Computes in O(1).
+    /// abstract pool, and whichever it shows is safe. The jobs that it counts are those of the
+    /// queue; the ads of the queue and of all mails ever sent are counted; and it has no more jobs
+    /// and no more bytes than it may. Computes in O(1).
     pub fn safety(&self)
         ensures kept { IsKeptPool self.now }
         ensures shown { (v : AbstractPool) × HasView self.now v }
         ensures safe { (v : AbstractPool) → HasView self.now v → Safe v }
+        ensures jobs { IsJobCount self.now.queue self.now.counts.jobs }
+        ensures few_jobs { HasFewJobs self.now }
+        ensures bytes { held_count self.now ≤ self.now.counts.bytes }
+        ensures within { IsWithin self.now }
     {
         let _ = &self.state;
     }

@@ -33,3 +33,8 @@ pub mod HistoryKept
 pub mod HistoryJobs
 pub mod HistoryLaunches
 pub mod Readers
+pub mod JobLists
+pub mod JobCounts
+pub mod Counting
+pub mod FewJobs
+pub mod HistoryCounts

@@ -1,3 +1,4 @@
+pub mod Counted
 pub mod Few
 pub mod Histories
 pub mod Kept

@@ -8,3 +8,15 @@ returns-clause-shown c = kept_shows _ (subst IsKeptPool c.self.view_is c.self.in
 
 pub returns-clause-safe : goal.returns-clause-safe
 returns-clause-safe c = λ v. kept_safe _ v (subst IsKeptPool c.self.view_is c.self.invariant)
+
+pub returns-clause-jobs : goal.returns-clause-jobs
+returns-clause-jobs c = let k = subst IsKeptPool c.self.view_is c.self.invariant in k.counted.jobs
+
+pub returns-clause-few_jobs : goal.returns-clause-few_jobs
+returns-clause-few_jobs c = let k = subst IsKeptPool c.self.view_is c.self.invariant in k.few_jobs
+
+pub returns-clause-bytes : goal.returns-clause-bytes
+returns-clause-bytes c = let k = subst IsKeptPool c.self.view_is c.self.invariant in k.counted.bytes
+
+pub returns-clause-within : goal.returns-clause-within
+returns-clause-within c = let k = subst IsKeptPool c.self.view_is c.self.invariant in k.within

@@ -3,6 +3,8 @@ use Rattle.pool_moves.specs.Deeds.{at_rest}
 use Rattle.pool_moves.specs.Given.{IsGiven}
 use Rattle.pool_safety.specs.Histories.{MovesView}
 use Rattle.pool_state.specs.declared.state.PoolState.{PoolState}
+use Rattle.pool_safety.specs.Counted.{CountsBytes}
+use Rattle.pool_core.proofs.CountedSteps.{step_counts}
 use Rattle.pool_core.proofs.Keeping.{step_kept, step_launches, step_moves}
 use Rattle.pool_core.proofs.pool.Pool.step.Goals as goal
 
@@ -10,7 +12,7 @@ pub invariant_of-self : goal.invariant_of-self
 invariant_of-self c =
     let event = c.args.event.now in
     let given = subst (λ (s : PoolState). IsGiven event s) (sym c.self.view_is) c.requires.given in
-    step_kept event (at_rest c.self.inside.state) (at_rest c.step.new.state) c.step.result c.self.invariant given c.step.ensures.accepted c.step.ensures.reacts c.step.ensures.same
+    step_kept event (at_rest c.self.inside.state) (at_rest c.step.new.state) c.step.result c.self.invariant given c.step.ensures.accepted c.step.ensures.reacts c.step.ensures.within c.step.ensures.same
 
 pub returns-clause-moves : goal.returns-clause-moves
 returns-clause-moves c =
@@ -24,3 +26,9 @@ returns-clause-launches c =
     let event = c.args.event.now in
     let given = subst (λ (s : PoolState). IsGiven event s) (sym c.self.view_is) c.requires.given in
     step_launches event (at_rest c.self.inside.state) (at_rest c.step.new.state) c.step.result c.self.invariant given c.step.ensures.accepted c.step.ensures.reacts
+
+pub returns-clause-counted : goal.returns-clause-counted
+returns-clause-counted c =
+    let event = c.args.event.now in
+    subst (λ (s : PoolState). OnOk c.step.result (CountsBytes event s (at_rest c.step.new.state))) c.self.view_is
+    (step_counts event (at_rest c.self.inside.state) (at_rest c.step.new.state) c.step.result c.self.invariant c.step.ensures.reacts)
