@@ -46,7 +46,7 @@ opened_kept o s can queue opened =
 -- ---- an event happens, or is refused
 event_kept : (e : Event) (s new : PoolState) (r : Stepped) → IsKeptPool s → IsGiven e s → IsRefusal e s None → Reacts s e r new → IsWithin new → IsKeptPool new
 event_kept e s new r k given free reacts within =
-    let on : GoesOn k.protocol (IsStepOf e) new = event_keeps some_reads.0 some_reads.1 k.protocol s k.kept k.few e r new given free reacts in
+    let on : GoesOn k.protocol (IsStepOf e s) new = event_keeps some_reads.0 some_reads.1 k.protocol s k.kept k.few e r new given free reacts in
     record {
       protocol = protocol_after_all k.protocol on.moves;
       kept = on.kept;

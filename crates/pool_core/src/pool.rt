@@ -84,13 +84,13 @@ impl Pool {
     }
 
     /// An event happens, where it is accepted: then the pool becomes what `Reacts` says of it. That
-    /// moves the abstract pool that it shows by steps that may be made, and what is launched was
-    /// matched. Counted are the bytes that it brings, and those that the queue and all mails have
-    /// more by it. Where it isn't accepted, the pool is as it was, and the refusal is the first of
-    /// the order of `StepError`. Memory too where a count of 64 bits is at its end. Computes as the
-    /// daemon's call, and beside that in O(log jobs + size of what is sent and logged); Matches in
-    /// O(matches * (log jobs + claims + attributes)); Close in O(slots + orders + size of the idle
-    /// jobs' ads).
+    /// moves the abstract pool that it shows by steps of the event that may be made, and what is
+    /// launched was matched. Counted are the bytes that it brings, and those that the queue and all
+    /// mails have more by it. Where it isn't accepted, the pool is as it was, and the refusal is
+    /// the first of the order of `StepError`. Memory too where a count of 64 bits is at its end.
+    /// Computes as the daemon's call, and beside that in O(log jobs + size of what is sent and
+    /// logged); Matches in O(matches * (log jobs + claims + attributes)); Close in O(slots + orders
+    /// + size of the idle jobs' ads).
     pub fn step(&mut self, alloc: Global, event: &Event) -> Result<Stepped, StepError>
         requires given { IsGiven event.now self.old }
         ensures accepted { OnOk result (IsRefusal event.now self.old None) }

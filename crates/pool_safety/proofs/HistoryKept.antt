@@ -79,7 +79,7 @@ module _ (read : List ℕ → Option ClaimId) (reads : IsReader read) where
       by job (inl old) = inl old
       by job (inr new) = inr (removal_on e s _ job new)
 
-  accepted_goes : (p : Protocol) (s : PoolState) (e : Event) (r : Stepped) (new : PoolState) → IsKept p s → AreFew s → Accepts s e r new → GoesOn p (IsStepOf e) new
+  accepted_goes : (p : Protocol) (s : PoolState) (e : Event) (r : Stepped) (new : PoolState) → IsKept p s → AreFew s → Accepts s e r new → GoesOn p (IsStepOf e s) new
   accepted_goes p s e r new k few a = event_keeps read reads p s k few e r new a.given a.accepted a.reacts
 
   -- the pools of a history
@@ -91,7 +91,7 @@ module _ (read : List ℕ → Option ClaimId) (reads : IsReader read) where
   leads_goes : (p : Protocol) (s : PoolState) (list : List Step) (t : PoolState) → IsKept p s → AreFew s → LeadsTo s list t → Goes p t
   leads_goes p s [] t k few same = record { on = staying p AnyStep t (subst (IsKept p) (sym same) k); few = subst AreFew (sym same) few }
   leads_goes p s (h ∷ hs) t k few (new, accepts, rest) =
-      let on = goes_of_more p (IsStepOf h.event) AnyStep new (λ l is. tt) (accepted_goes p s h.event h.answer new k few accepts) in
+      let on = goes_of_more p (IsStepOf h.event s) AnyStep new (λ l is. tt) (accepted_goes p s h.event h.answer new k few accepts) in
       let later = leads_goes (protocol_after_all p on.moves) new hs t on.kept (event_few read reads p s new h.event h.answer k few accepts.reacts) rest in
       record { on = going_on p AnyStep on.moves t on.may on.steps later.on; few = later.few }
 
@@ -134,12 +134,12 @@ module _ (read : List ℕ → Option ClaimId) (reads : IsReader read) where
 
   -- an accepted event does so, by its own
   accepted_takes : (p : Protocol) (s : PoolState) (e : Event) (r : Stepped) (new : PoolState) (v w : AbstractPool) → IsKept p s → AreFew s → Accepts s e r new → HasView s v → HasView new w
-      → (steps : List AbstractStep) × Takes v steps w × AreStepsOf e steps
+      → (steps : List AbstractStep) × Takes v steps w × AreStepsOf e s steps
   accepted_takes p s e r new v w k few accepts before after =
       let q : Protocol = record p { pool = v } in
       let kept : IsKept q s = with_view p s v k before in
       let on = accepted_goes q s e r new kept few accepts in
-      (all_steps q on.moves, goes_steps q (IsStepOf e) s new w kept on after, on.steps)
+      (all_steps q on.moves, goes_steps q (IsStepOf e s) s new w kept on after, on.steps)
 
   -- and orders only what it asks for
   pub accepted_steps : (p : Protocol) (s : PoolState) (e : Event) (r : Stepped) (new : PoolState) → IsKept p s → AreFew s → Accepts s e r new → MovesView e s new
@@ -155,7 +155,7 @@ module _ (read : List ℕ → Option ClaimId) (reads : IsReader read) where
       known : (job : JobId) → IsIn job w.ordered → IsIn job v.ordered ⊎ OrdersRemoval e s job
       known job there = by job ((reacts_leaves s e r new accepts.reacts).asked job ((after.ordered job).0 there))
 
-  pub event_steps : (o : Opening) (list : List Step) (s : PoolState) (e : Event) (r : Stepped) (new : PoolState) (v w : AbstractPool) → IsEvent o list s e r new v w → (steps : List AbstractStep) × Takes v steps w × AreStepsOf e steps × OrdersOnly e s steps
+  pub event_steps : (o : Opening) (list : List Step) (s : PoolState) (e : Event) (r : Stepped) (new : PoolState) (v w : AbstractPool) → IsEvent o list s e r new v w → (steps : List AbstractStep) × Takes v steps w × AreStepsOf e s steps × OrdersOnly e s steps
   event_steps o list s e r new v w h =
       let past = history_past o list s h.history in
       accepted_steps past.protocol s e r new past.kept past.few h.accepts v w h.before h.after

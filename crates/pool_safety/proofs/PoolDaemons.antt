@@ -22,20 +22,20 @@ use Rattle.pool_safety.proofs.PoolSent.{received_kept}
 
 -- ---- the matchmaker
 pub receipts_keep : (p : Protocol) (s : PoolState) (boot index reading : ℕ) (judged : Option Judgement) (mismatch : Option Mismatch) (new : PoolState) (r : Stepped) → IsKept p s
-    → Happens (event.Receive Matchmaker boot index reading judged mismatch) s new r → GoesOn p (IsStepOf (event.Receive Matchmaker boot index reading judged mismatch)) (at_reading reading new)
+    → Happens (event.Receive Matchmaker boot index reading judged mismatch) s new r → GoesOn p (IsStepOf (event.Receive Matchmaker boot index reading judged mismatch) s) (at_reading reading new)
 unfolding Happens
 receipts_keep p s boot index reading judged mismatch new r k happens = by (slice_get s.mails.sent index) happens
   where
     by : (o : Option Sent) → Rattle.std.specs.Prelude.IsSomeAnd o (λ sent. Rattle.pool_moves.specs.Happens.Receives Matchmaker index sent.mail reading judged s new r)
-        → GoesOn p (IsStepOf (event.Receive Matchmaker boot index reading judged mismatch)) (at_reading reading new)
+        → GoesOn p (IsStepOf (event.Receive Matchmaker boot index reading judged mismatch) s) (at_reading reading new)
     by None h = absurd h
-    by (Some sent) h = subst (λ t. GoesOn p (IsStepOf (event.Receive Matchmaker boot index reading judged mismatch)) (at_reading reading t)) (sym h.0)
-        (read_on p (IsStepOf (event.Receive Matchmaker boot index reading judged mismatch)) s _ reading (λ moment late. late) k (λ q kept. staying q (IsStepOf (event.Receive Matchmaker boot index reading judged mismatch)) _ (received_kept q (at_reading reading s) index kept)))
+    by (Some sent) h = subst (λ t. GoesOn p (IsStepOf (event.Receive Matchmaker boot index reading judged mismatch) s) (at_reading reading t)) (sym h.0)
+        (read_on p (IsStepOf (event.Receive Matchmaker boot index reading judged mismatch) s) s _ reading refl k (λ q kept. staying q (IsStepOf (event.Receive Matchmaker boot index reading judged mismatch) s) _ (received_kept q (at_reading reading s) index kept)))
 
-pub ticks_keep : (p : Protocol) (s : PoolState) (boot reading : ℕ) (new : PoolState) (r : Stepped) → IsKept p s → Happens (event.Tick Matchmaker boot reading) s new r → GoesOn p (IsStepOf (event.Tick Matchmaker boot reading)) (at_reading reading new)
+pub ticks_keep : (p : Protocol) (s : PoolState) (boot reading : ℕ) (new : PoolState) (r : Stepped) → IsKept p s → Happens (event.Tick Matchmaker boot reading) s new r → GoesOn p (IsStepOf (event.Tick Matchmaker boot reading) s) (at_reading reading new)
 unfolding Happens
-ticks_keep p s boot reading new r k happens = subst (λ t. GoesOn p (IsStepOf (event.Tick Matchmaker boot reading)) (at_reading reading t)) (sym happens.0)
-    (read_on p (IsStepOf (event.Tick Matchmaker boot reading)) s _ reading (λ moment late. late) k (λ q kept. staying q (IsStepOf (event.Tick Matchmaker boot reading)) _ kept))
+ticks_keep p s boot reading new r k happens = subst (λ t. GoesOn p (IsStepOf (event.Tick Matchmaker boot reading) s) (at_reading reading t)) (sym happens.0)
+    (read_on p (IsStepOf (event.Tick Matchmaker boot reading) s) s _ reading refl k (λ q kept. staying q (IsStepOf (event.Tick Matchmaker boot reading) s) _ kept))
 
 -- the boots of machines stay where those of startds do
 pub daemons_kept : (p : Protocol) (s : PoolState) (d : DaemonsValue) → ((machine : ℕ) → boot_of (daemon_state (Startd machine) d) ≡ boot_of (daemon_state (Startd machine) s.daemons)) → IsKept p s → IsKept p (record s { daemons = d })
@@ -48,10 +48,10 @@ daemons_kept p s d same k = record {
 }
 
 pub returns_keep : (p : Protocol) (s : PoolState) (kept : Option (ReceiptValue (List Operation))) (ended : List (ReceiptValue Ending)) (reading : ℕ) (new : PoolState) (r : Stepped) → IsKept p s
-    → Happens (event.Reopen Matchmaker kept ended reading) s new r → GoesOn p (IsStepOf (event.Reopen Matchmaker kept ended reading)) (at_reading reading new)
+    → Happens (event.Reopen Matchmaker kept ended reading) s new r → GoesOn p (IsStepOf (event.Reopen Matchmaker kept ended reading) s) (at_reading reading new)
 unfolding Happens
-returns_keep p s kept ended reading new r k happens = subst (λ t. GoesOn p (IsStepOf (event.Reopen Matchmaker kept ended reading)) (at_reading reading t)) (sym (happens.pool ∙ ap (Rattle.pool_moves.specs.Happens.boots (boot_of (daemon_state Matchmaker s.daemons) + 1) Matchmaker) happens.comes.0))
-    (read_on p (IsStepOf (event.Reopen Matchmaker kept ended reading)) s _ reading (λ moment late. late) k (λ q is. staying q (IsStepOf (event.Reopen Matchmaker kept ended reading)) _ (daemons_kept q (at_reading reading s) _ (λ machine. refl) is)))
+returns_keep p s kept ended reading new r k happens = subst (λ t. GoesOn p (IsStepOf (event.Reopen Matchmaker kept ended reading) s) (at_reading reading t)) (sym (happens.pool ∙ ap (Rattle.pool_moves.specs.Happens.boots (boot_of (daemon_state Matchmaker s.daemons) + 1) Matchmaker) happens.comes.0))
+    (read_on p (IsStepOf (event.Reopen Matchmaker kept ended reading) s) s _ reading refl k (λ q is. staying q (IsStepOf (event.Reopen Matchmaker kept ended reading) s) _ (daemons_kept q (at_reading reading s) _ (λ machine. refl) is)))
 
 -- ---- a crash
 put_boot : (xs : List DaemonState) (i k : ℕ) (old new : DaemonState) → slice_get xs i ≡ Some old → new.boot ≡ old.boot → boot_of (slice_get (slice_set xs i new) k) ≡ boot_of (slice_get xs k)
@@ -74,12 +74,12 @@ crashed_boot (Startd k) d machine = by (slice_get d.startds k) refl
     by None at = refl
     by (Some old) at = put (nat_lt k (length d.startds)) old at
 
-pub crashes_keep : (p : Protocol) (s : PoolState) (who : Daemon) (new : PoolState) (r : Stepped) → IsKept p s → Happens (event.Crash who) s new r → GoesOn p (IsStepOf (event.Crash who)) new
+pub crashes_keep : (p : Protocol) (s : PoolState) (who : Daemon) (new : PoolState) (r : Stepped) → IsKept p s → Happens (event.Crash who) s new r → GoesOn p (IsStepOf (event.Crash who) s) new
 unfolding Happens
-crashes_keep p s who new r k happens = subst (GoesOn p (IsStepOf (event.Crash who))) (sym happens.0) (staying p (IsStepOf (event.Crash who)) (crashes who s) (daemons_kept p s _ (crashed_boot who s.daemons) k))
+crashes_keep p s who new r k happens = subst (GoesOn p (IsStepOf (event.Crash who) s)) (sym happens.0) (staying p (IsStepOf (event.Crash who) s) (crashes who s) (daemons_kept p s _ (crashed_boot who s.daemons) k))
 
 -- ---- the close
-pub closes_keep : (p : Protocol) (s : PoolState) (length reading : ℕ) (mismatch : Mismatch) (new : PoolState) (r : Stepped) → IsKept p s → Happens (event.Close length reading mismatch) s new r → GoesOn p (IsStepOf (event.Close length reading mismatch)) (at_reading reading new)
+pub closes_keep : (p : Protocol) (s : PoolState) (length reading : ℕ) (mismatch : Mismatch) (new : PoolState) (r : Stepped) → IsKept p s → Happens (event.Close length reading mismatch) s new r → GoesOn p (IsStepOf (event.Close length reading mismatch) s) (at_reading reading new)
 unfolding Happens
-closes_keep p s length reading mismatch new r k happens = subst (λ t. GoesOn p (IsStepOf (event.Close length reading mismatch)) (at_reading reading t)) (sym happens.0)
-    (read_on p (IsStepOf (event.Close length reading mismatch)) s _ reading (λ moment late. late) k (λ q kept. staying q (IsStepOf (event.Close length reading mismatch)) _ (aside_kept q (at_reading reading s) s.counts s.events true kept)))
+closes_keep p s length reading mismatch new r k happens = subst (λ t. GoesOn p (IsStepOf (event.Close length reading mismatch) s) (at_reading reading t)) (sym happens.0)
+    (read_on p (IsStepOf (event.Close length reading mismatch) s) s _ reading refl k (λ q kept. staying q (IsStepOf (event.Close length reading mismatch) s) _ (aside_kept q (at_reading reading s) s.counts s.events true kept)))

@@ -75,30 +75,30 @@ module _ (read : List ℕ → Option ClaimId) (reads : IsReader read) (p : Proto
   brought : (e : Event) → IsKept p (counts_brought e s)
   brought e = aside_kept p s (record s.counts { bytes = s.counts.bytes + event_count e }) s.events s.closed k
 
-  goes : (e : Event) (t : PoolState) (r : Stepped) → IsGiven e s → IsRefusal e s None → Happens e (counts_brought e s) t r → t.latest ≡ s.latest → GoesOn p (IsStepOf e) (counts_event e s t)
-  goes (event.Submit boot jobs reading) t r given free h same = counted p (IsStepOf (event.Submit boot jobs reading)) s t reading same (submit_keeps p (counts_brought (event.Submit boot jobs reading) s) t r boot jobs reading (brought (event.Submit boot jobs reading)) (record { clusters = few.clusters; few = few.few; all = few.all }) given free h)
-  goes (event.Order v job reading) t r given free h same = counted p (IsStepOf (event.Order v job reading)) s t reading same (orders_keep p (counts_brought (event.Order v job reading) s) v job reading t r (brought (event.Order v job reading)) h)
-  goes (event.Receive Schedd boot index reading judged mismatch) t r given free h same = counted p (IsStepOf (event.Receive Schedd boot index reading judged mismatch)) s t reading same
+  goes : (e : Event) (t : PoolState) (r : Stepped) → IsGiven e s → IsRefusal e s None → Happens e (counts_brought e s) t r → t.latest ≡ s.latest → GoesOn p (IsStepOf e s) (counts_event e s t)
+  goes (event.Submit boot jobs reading) t r given free h same = counted p (IsStepOf (event.Submit boot jobs reading) s) s t reading same (submit_keeps p (counts_brought (event.Submit boot jobs reading) s) t r boot jobs reading (brought (event.Submit boot jobs reading)) (record { clusters = few.clusters; few = few.few; all = few.all }) given free h)
+  goes (event.Order v job reading) t r given free h same = counted p (IsStepOf (event.Order v job reading) s) s t reading same (orders_keep p (counts_brought (event.Order v job reading) s) v job reading t r (brought (event.Order v job reading)) h)
+  goes (event.Receive Schedd boot index reading judged mismatch) t r given free h same = counted p (IsStepOf (event.Receive Schedd boot index reading judged mismatch) s) s t reading same
       (mail_keeps p (counts_brought (event.Receive Schedd boot index reading judged mismatch) s) t r boot index reading judged mismatch (brought (event.Receive Schedd boot index reading judged mismatch)) (receive_free_on s _ Schedd boot index reading judged mismatch (event_free (event.Receive Schedd boot index reading judged mismatch) s free)) h)
-  goes (event.Receive (Startd machine) boot index reading judged mismatch) t r given free h same = counted p (IsStepOf (event.Receive (Startd machine) boot index reading judged mismatch)) s t reading same
+  goes (event.Receive (Startd machine) boot index reading judged mismatch) t r given free h same = counted p (IsStepOf (event.Receive (Startd machine) boot index reading judged mismatch) s) s t reading same
       (startd.received_goes_on p (counts_brought (event.Receive (Startd machine) boot index reading judged mismatch) s) t r machine boot index reading judged mismatch (brought (event.Receive (Startd machine) boot index reading judged mismatch)) (receive_free_on s _ (Startd machine) boot index reading judged mismatch (event_free (event.Receive (Startd machine) boot index reading judged mismatch) s free)) h)
-  goes (event.Receive Matchmaker boot index reading judged mismatch) t r given free h same = counted p (IsStepOf (event.Receive Matchmaker boot index reading judged mismatch)) s t reading same
+  goes (event.Receive Matchmaker boot index reading judged mismatch) t r given free h same = counted p (IsStepOf (event.Receive Matchmaker boot index reading judged mismatch) s) s t reading same
       (daemons.receipts_keep p (counts_brought (event.Receive Matchmaker boot index reading judged mismatch) s) boot index reading judged mismatch t r (brought (event.Receive Matchmaker boot index reading judged mismatch)) h)
-  goes (event.Tick Schedd boot reading) t r given free h same = counted p (IsStepOf (event.Tick Schedd boot reading)) s t reading same (tick_keeps p (counts_brought (event.Tick Schedd boot reading) s) t r boot reading (brought (event.Tick Schedd boot reading)) (event_free (event.Tick Schedd boot reading) s free) h)
-  goes (event.Tick (Startd machine) boot reading) t r given free h same = counted p (IsStepOf (event.Tick (Startd machine) boot reading)) s t reading same (startd.ticked_goes_on p (counts_brought (event.Tick (Startd machine) boot reading) s) t r machine boot reading (brought (event.Tick (Startd machine) boot reading)) h)
-  goes (event.Tick Matchmaker boot reading) t r given free h same = counted p (IsStepOf (event.Tick Matchmaker boot reading)) s t reading same (daemons.ticks_keep p (counts_brought (event.Tick Matchmaker boot reading) s) boot reading t r (brought (event.Tick Matchmaker boot reading)) h)
-  goes (event.Check boot job reading) t r given free h same = counted p (IsStepOf (event.Check boot job reading)) s t reading same (look_keeps p (counts_brought (event.Check boot job reading) s) t r boot job reading (brought (event.Check boot job reading)) (event_free (event.Check boot job reading) s free) h)
-  goes (event.Logged boot receipt) t r given free h same = unread p (IsStepOf (event.Logged boot receipt)) s t same (logged_keeps read reads p (counts_brought (event.Logged boot receipt) s) t r boot receipt (brought (event.Logged boot receipt)) h)
-  goes (event.Ended machine boot receipt reading) t r given free h same = counted p (IsStepOf (event.Ended machine boot receipt reading)) s t reading same (startd.ended_goes_on p (counts_brought (event.Ended machine boot receipt reading) s) t r machine boot reading receipt (brought (event.Ended machine boot receipt reading)) h)
-  goes (event.Crash who) t r given free h same = unread p (IsStepOf (event.Crash who)) s t same (daemons.crashes_keep p (counts_brought (event.Crash who) s) who t r (brought (event.Crash who)) h)
-  goes (event.Reopen Schedd kept ended reading) t r given free h same = counted p (IsStepOf (event.Reopen Schedd kept ended reading)) s t reading same (return_keeps read reads p (counts_brought (event.Reopen Schedd kept ended reading) s) t r kept ended reading (brought (event.Reopen Schedd kept ended reading)) h)
-  goes (event.Reopen (Startd machine) kept ended reading) t r given free h same = counted p (IsStepOf (event.Reopen (Startd machine) kept ended reading)) s t reading same
+  goes (event.Tick Schedd boot reading) t r given free h same = counted p (IsStepOf (event.Tick Schedd boot reading) s) s t reading same (tick_keeps p (counts_brought (event.Tick Schedd boot reading) s) t r boot reading (brought (event.Tick Schedd boot reading)) (event_free (event.Tick Schedd boot reading) s free) h)
+  goes (event.Tick (Startd machine) boot reading) t r given free h same = counted p (IsStepOf (event.Tick (Startd machine) boot reading) s) s t reading same (startd.ticked_goes_on p (counts_brought (event.Tick (Startd machine) boot reading) s) t r machine boot reading (brought (event.Tick (Startd machine) boot reading)) h)
+  goes (event.Tick Matchmaker boot reading) t r given free h same = counted p (IsStepOf (event.Tick Matchmaker boot reading) s) s t reading same (daemons.ticks_keep p (counts_brought (event.Tick Matchmaker boot reading) s) boot reading t r (brought (event.Tick Matchmaker boot reading)) h)
+  goes (event.Check boot job reading) t r given free h same = counted p (IsStepOf (event.Check boot job reading) s) s t reading same (look_keeps p (counts_brought (event.Check boot job reading) s) t r boot job reading (brought (event.Check boot job reading)) (event_free (event.Check boot job reading) s free) h)
+  goes (event.Logged boot receipt) t r given free h same = unread p (IsStepOf (event.Logged boot receipt) s) s t same (logged_keeps read reads p (counts_brought (event.Logged boot receipt) s) t r boot receipt (brought (event.Logged boot receipt)) h)
+  goes (event.Ended machine boot receipt reading) t r given free h same = counted p (IsStepOf (event.Ended machine boot receipt reading) s) s t reading same (startd.ended_goes_on p (counts_brought (event.Ended machine boot receipt reading) s) t r machine boot reading receipt (brought (event.Ended machine boot receipt reading)) h)
+  goes (event.Crash who) t r given free h same = unread p (IsStepOf (event.Crash who) s) s t same (daemons.crashes_keep p (counts_brought (event.Crash who) s) who t r (brought (event.Crash who)) h)
+  goes (event.Reopen Schedd kept ended reading) t r given free h same = counted p (IsStepOf (event.Reopen Schedd kept ended reading) s) s t reading same (return_keeps read reads p (counts_brought (event.Reopen Schedd kept ended reading) s) t r kept ended reading (brought (event.Reopen Schedd kept ended reading)) h)
+  goes (event.Reopen (Startd machine) kept ended reading) t r given free h same = counted p (IsStepOf (event.Reopen (Startd machine) kept ended reading) s) s t reading same
       (startd.booted_goes_on p (counts_brought (event.Reopen (Startd machine) kept ended reading) s) t r machine reading kept ended (brought (event.Reopen (Startd machine) kept ended reading)) (event_free (event.Reopen (Startd machine) kept ended reading) s free) h)
-  goes (event.Reopen Matchmaker kept ended reading) t r given free h same = counted p (IsStepOf (event.Reopen Matchmaker kept ended reading)) s t reading same (daemons.returns_keep p (counts_brought (event.Reopen Matchmaker kept ended reading) s) kept ended reading t r (brought (event.Reopen Matchmaker kept ended reading)) h)
-  goes (event.Matches list judged reading) t r given free h same = counted p (IsStepOf (event.Matches list judged reading)) s t reading same (matches_keep p (counts_brought (event.Matches list judged reading) s) list judged reading t r (brought (event.Matches list judged reading)) given h)
-  goes (event.Close length reading mismatch) t r given free h same = counted p (IsStepOf (event.Close length reading mismatch)) s t reading same (daemons.closes_keep p (counts_brought (event.Close length reading mismatch) s) length reading mismatch t r (brought (event.Close length reading mismatch)) h)
+  goes (event.Reopen Matchmaker kept ended reading) t r given free h same = counted p (IsStepOf (event.Reopen Matchmaker kept ended reading) s) s t reading same (daemons.returns_keep p (counts_brought (event.Reopen Matchmaker kept ended reading) s) kept ended reading t r (brought (event.Reopen Matchmaker kept ended reading)) h)
+  goes (event.Matches list judged reading) t r given free h same = counted p (IsStepOf (event.Matches list judged reading) s) s t reading same (matches_keep p (counts_brought (event.Matches list judged reading) s) list judged reading t r (brought (event.Matches list judged reading)) given h)
+  goes (event.Close length reading mismatch) t r given free h same = counted p (IsStepOf (event.Close length reading mismatch) s) s t reading same (daemons.closes_keep p (counts_brought (event.Close length reading mismatch) s) length reading mismatch t r (brought (event.Close length reading mismatch)) h)
 
-  pub event_keeps : (e : Event) (r : Stepped) (new : PoolState) → IsGiven e s → IsRefusal e s None → Reacts s e r new → GoesOn p (IsStepOf e) new
-  event_keeps e r new given free reacts = subst (GoesOn p (IsStepOf e)) (sym reacts.pool)
+  pub event_keeps : (e : Event) (r : Stepped) (new : PoolState) → IsGiven e s → IsRefusal e s None → Reacts s e r new → GoesOn p (IsStepOf e s) new
+  event_keeps e r new given free reacts = subst (GoesOn p (IsStepOf e s)) (sym reacts.pool)
       (goes e reacts.then_pool r given free reacts.happens
       (happens_traces read reads e (counts_brought e s) reacts.then_pool r reacts.happens).latest)

@@ -1,6 +1,5 @@
 -- What is counted of a pool doesn't matter to what is kept; and moves one after the other.
-use Rattle.std.proofs.Common.{ℕ, ◌≤◌, max, Bool, List, [], ◌∷◌, ◌++◌, sym, subst}
-use Rattle.std.proofs.Math.Nat.{le-max_right}
+use Rattle.std.proofs.Common.{ℕ, max, Bool, List, [], ◌∷◌, ◌++◌, sym, subst}
 use Rattle.pool_links.proofs.Going.{after_append, may_append}
 use Rattle.pool_links.proofs.ScheddKept.{time_linked}
 use Rattle.pool_safety.specs.Parts.{parts_of}
@@ -37,10 +36,10 @@ pub goes_of_more : (p : Protocol) (P Q : AbstractStep → Type 0) (s : PoolState
 goes_of_more p P Q s more on = record { moves = on.moves; may = on.may; steps = wider_steps P Q (all_steps p on.moves) more on.steps; kept = on.kept }
 
 -- a reading is taken first
-pub read_on : (p : Protocol) (P : AbstractStep → Type 0) (s new : PoolState) (reading : ℕ) → ((moment : ℕ) → reading ≤ moment → P (Time moment)) → IsKept p s
+pub read_on : (p : Protocol) (P : AbstractStep → Type 0) (s new : PoolState) (reading : ℕ) → P (Time (max s.latest reading)) → IsKept p s
     → ((q : Protocol) → IsKept q (at_reading reading s) → GoesOn q P new) → GoesOn p P new
 read_on p P s new reading time k rest =
     let t = time_linked p (parts_of s) reading k.linked in
     let moment : ℕ = max s.latest reading in
     let ms : List ProtocolMove = PassTime moment ∷ [] in
-    going_on p P ms new t.may (step_before P (Time moment) [] (time moment (le-max_right s.latest reading)) (no_steps P)) (rest (protocol_after_all p ms) (record { linked = t.linked; pending = k.pending; addressed = k.addressed; passed = k.passed; boots = k.boots }))
+    going_on p P ms new t.may (step_before P (Time moment) [] time (no_steps P)) (rest (protocol_after_all p ms) (record { linked = t.linked; pending = k.pending; addressed = k.addressed; passed = k.passed; boots = k.boots }))

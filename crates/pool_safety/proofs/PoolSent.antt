@@ -84,10 +84,10 @@ gives_kept p s (Some place) v job reading k = sent_kept p (at_reading reading s)
     wanted m (inl same) = subst (IsWanted s.machines) (sym same) (order_wanted s.machines v job)
     wanted m (inr there) = absurd there
 
-pub orders_keep : (p : Protocol) (s : PoolState) (v : Verb) (job : JobId) (reading : ℕ) (new : PoolState) (r : Stepped) → IsKept p s → Happens (event.Order v job reading) s new r → GoesOn p (IsStepOf (event.Order v job reading)) (at_reading reading new)
+pub orders_keep : (p : Protocol) (s : PoolState) (v : Verb) (job : JobId) (reading : ℕ) (new : PoolState) (r : Stepped) → IsKept p s → Happens (event.Order v job reading) s new r → GoesOn p (IsStepOf (event.Order v job reading) s) (at_reading reading new)
 unfolding Happens
-orders_keep p s v job reading new r k happens = subst (λ t. GoesOn p (IsStepOf (event.Order v job reading)) (at_reading reading t)) (sym happens.0)
-    (read_on p (IsStepOf (event.Order v job reading)) s _ reading (λ moment late. late) k (λ q kept. staying q (IsStepOf (event.Order v job reading)) _ (gives_kept q s (position (is_due_for v job reading) s.orders) v job reading kept)))
+orders_keep p s v job reading new r k happens = subst (λ t. GoesOn p (IsStepOf (event.Order v job reading) s) (at_reading reading t)) (sym happens.0)
+    (read_on p (IsStepOf (event.Order v job reading) s) s _ reading refl k (λ q kept. staying q (IsStepOf (event.Order v job reading) s) _ (gives_kept q s (position (is_due_for v job reading) s.orders) v job reading kept)))
 
 -- ---- matches
 -- a match that is passed is one that was given, and it is live
@@ -188,10 +188,10 @@ are_wanted p s ms js reading live k numbered are m there =
     passed_wanted m is = match_wanted p s m is.judged reading k is.live (each_of_all (λ (x : Match). IsNumbered x.claim) ms numbered m is.given)
 
 pub matches_keep : (p : Protocol) (s : PoolState) (ms : List Match) (js : List Judgement) (reading : ℕ) (new : PoolState) (r : Stepped) → IsKept p s → IsGiven (event.Matches ms js reading) s → Happens (event.Matches ms js reading) s new r
-    → GoesOn p (IsStepOf (event.Matches ms js reading)) (at_reading reading new)
+    → GoesOn p (IsStepOf (event.Matches ms js reading) s) (at_reading reading new)
 unfolding Happens
-matches_keep p s ms js reading new r k given happens = subst (λ t. GoesOn p (IsStepOf (event.Matches ms js reading)) (at_reading reading t)) (sym happens.pool)
-    (read_on p (IsStepOf (event.Matches ms js reading)) s _ reading (λ moment late. late) k (λ q kept. staying q (IsStepOf (event.Matches ms js reading)) _ (sent_kept q (at_reading reading s) (mails_of_matches happens.live) s.orders kept
+matches_keep p s ms js reading new r k given happens = subst (λ t. GoesOn p (IsStepOf (event.Matches ms js reading) s) (at_reading reading t)) (sym happens.pool)
+    (read_on p (IsStepOf (event.Matches ms js reading) s) s _ reading refl k (λ q kept. staying q (IsStepOf (event.Matches ms js reading) s) _ (sent_kept q (at_reading reading s) (mails_of_matches happens.live) s.orders kept
     (λ x there. (are_posts happens.live x there).goes) (are_wanted p s ms js reading happens.live k given.1 happens.are))))
 
 -- ---- a mail is received

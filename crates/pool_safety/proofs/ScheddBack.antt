@@ -1,5 +1,5 @@
 -- A pool is kept where its schedd comes back.
-use Rattle.std.proofs.Common.{◌≡◌, inl, inr, ℕ, ◌≤◌, ◌+◌, Bool, true, false, List, [], ◌∷◌, Ok, Option, Some, None, is_some, IsSomeAnd, refl, sym, ap, subst}
+use Rattle.std.proofs.Common.{max, ◌≡◌, inl, inr, ℕ, ◌+◌, Bool, true, false, List, [], ◌∷◌, Ok, Option, Some, None, is_some, IsSomeAnd, refl, sym, ap, subst}
 use Rattle.claim_id.specs.declared.numbers.ClaimId.{ClaimId}
 use Rattle.claim_id.specs.declared.numbers.JobId.{JobId}
 use Rattle.pool_event.specs.declared.answer.Stepped.{Stepped}
@@ -87,10 +87,10 @@ module _ (read : List ℕ → Option ClaimId) (reads : IsReader read) where
   abbrev back_with : ScheddValue → KeyedAds → Leaver → Unfinished → PoolState → PoolState
   back_with v q leaver what s = record (with_logged q leaver what s) { schedd = v }
 
-  with_goes : (p : Protocol) (P : AbstractStep → Type 0) → ((k : AbstractStep) → IsQueueStep k → P k) → (s : PoolState) (v : ScheddValue) (q : KeyedAds) (leaver : Leaver) (what : Unfinished) (finished : JobId → Option Entry) (reading : ℕ) → IsKept p s → IsReopened s.schedd q reading v
-      → AreSteps IsQueueStep (pending_steps p.pending) → StayLinked p (Commit ∷ []) (parts_with_return v q finished (parts_of s)) → ((job : JobId) → finished_in (with_leaver leaver s.finished) job ≡ finished job) → GoesOn p P (back_with v q leaver what s)
-  with_goes p P queues s v q leaver what finished reading kept back steps stay same =
-      goes_by p P (Commit ∷ []) (parts_with_return v q finished (parts_of s)) (back_with v q leaver what s) (commit_first P p [] queues steps (λ x. no_steps P)) stay
+  with_goes : (p : Protocol) (P : AbstractStep → Type 0) (s : PoolState) (v : ScheddValue) (q : KeyedAds) (leaver : Leaver) (what : Unfinished) (finished : JobId → Option Entry) (reading : ℕ) → IsKept p s → IsReopened s.schedd q reading v
+      → AreSteps P (pending_steps p.pending) → StayLinked p (Commit ∷ []) (parts_with_return v q finished (parts_of s)) → ((job : JobId) → finished_in (with_leaver leaver s.finished) job ≡ finished job) → GoesOn p P (back_with v q leaver what s)
+  with_goes p P s v q leaver what finished reading kept back steps stay same =
+      goes_by p P (Commit ∷ []) (parts_with_return v q finished (parts_of s)) (back_with v q leaver what s) (commit_first P p [] steps (λ x. no_steps P)) stay
       (record {
         moment = refl;
         startds = refl;
@@ -108,24 +108,24 @@ module _ (read : List ℕ → Option ClaimId) (reads : IsReader read) where
       (reopened_passed read reads q s.schedd v reading back)
       kept.boots
 
-  by_what : (p : Protocol) (P : AbstractStep → Type 0) → ((k : AbstractStep) → IsQueueStep k → P k) → (s : PoolState) (v : ScheddValue) (q : KeyedAds) (tx : List Operation) (what : Unfinished) (reading : ℕ) → IsKept p s → awaited_of s.pending ≡ Some (awaited_by tx what) → IsTxOf what tx → queue_after s.queue tx ≡ Ok q
+  by_what : (p : Protocol) (P : AbstractStep → Type 0) (s : PoolState) (v : ScheddValue) (q : KeyedAds) (tx : List Operation) (what : Unfinished) (reading : ℕ) → ((k : AbstractStep) → IsQueueStep what k → P k) → IsKept p s → awaited_of s.pending ≡ Some (awaited_by tx what) → IsTxOf what tx → queue_after s.queue tx ≡ Ok q
       → IsReopened s.schedd q reading v → GoesOn p P (back_with v q (leaver_of read s.queue what) what s)
-  by_what p P queues s v q tx (Submission cluster count) reading kept awaited of h back =
+  by_what p P s v q tx (Submission cluster count) reading queues kept awaited of h back =
       let w : AwaitsJobs p (parts_of s) (cluster_jobs cluster count) tx = subst (λ (o : Option Awaited). Awaits p (parts_of s) o) awaited kept.linked.awaited in
-      with_goes p P queues s v q None (Submission cluster count) (finished_in s.finished) reading kept back
-      (jobs_steps p (parts_of s) (cluster_jobs cluster count) tx w)
+      with_goes p P s v q None (Submission cluster count) (finished_in s.finished) reading kept back
+      (jobs_steps P p (parts_of s) cluster count tx queues w)
       (jobs_kept read reads p (parts_of s) (cluster_jobs cluster count) tx q v reading kept.linked w h back)
       (λ job. refl)
-  by_what p P queues s v q tx (Plan pl) reading kept awaited of h back =
+  by_what p P s v q tx (Plan pl) reading queues kept awaited of h back =
       let w : AwaitsPlan p (parts_of s) pl = subst (λ (o : Option Awaited). Awaits p (parts_of s) o) awaited kept.linked.awaited in
       let l : Leaves pl s.queue s.finished (leaver_of read s.queue (Plan pl)) = leaves read reads p s pl kept.linked w in
-      with_goes p P queues s v q (leaver_of read s.queue (Plan pl)) (Plan pl) l.finished reading kept back
-      (plan_steps p (parts_of s) pl w)
+      with_goes p P s v q (leaver_of read s.queue (Plan pl)) (Plan pl) l.finished reading kept back
+      (plan_steps P p (parts_of s) pl queues w)
       (plan_kept read reads p (parts_of s) pl q l.finished v reading kept.linked w (subst (λ (ops : List Operation). queue_after s.queue ops ≡ Ok q) of h) l.finishes back)
       l.same
 
   -- ---- either
-  back_goes : (p : Protocol) (P : AbstractStep → Type 0) (s back : PoolState) (kept : Bool) (reading : ℕ) → ((moment : ℕ) → reading ≤ moment → P (Time moment)) → ((k : AbstractStep) → kept ≡ true → IsQueueStep k → P k)
+  back_goes : (p : Protocol) (P : AbstractStep → Type 0) (s back : PoolState) (kept : Bool) (reading : ℕ) → P (Time (max s.latest reading)) → ((k : AbstractStep) → kept ≡ true → IsSomeAnd s.pending (λ x. IsQueueStep x.what k) → P k)
       → IsKept p s → ScheddIsBack s kept reading back → GoesOn p P (at_reading reading back)
   back_goes p P s back false reading time queues is does =
       subst (λ (x : PoolState). GoesOn p P (at_reading reading x)) (sym does.pool)
@@ -133,17 +133,20 @@ module _ (read : List ℕ → Option ClaimId) (reads : IsReader read) where
       (λ q now. without_goes q P (at_reading reading s) does.schedd reading now does.back))
   back_goes p P s back true reading time queues is does = by s.pending refl is.pending does
     where
+      waits : (x : Pending) → s.pending ≡ Some x → (k : AbstractStep) → IsQueueStep x.what k → IsSomeAnd s.pending (λ y. IsQueueStep y.what k)
+      waits x is k h = subst (λ (o : Option Pending). IsSomeAnd o (λ y. IsQueueStep y.what k)) (sym is) h
+
       by : (o : Option Pending) → s.pending ≡ o → IsPendingTx o → IsSomeAnd o (λ x. IsBackWith s x reading back) → GoesOn p P (at_reading reading back)
       by None none tx does = absurd does
       by (Some x) some tx does =
           subst (λ (t : PoolState). GoesOn p P (at_reading reading t)) (sym (does.pool read reads))
           (goes_after_reading p P s (at_reading reading (back_with does.schedd does.queue (leaver_of read s.queue x.what) x.what s)) reading time is
-          (λ q now. by_what q P (λ k queue. queues k refl queue) (at_reading reading s) does.schedd does.queue x.tx x.what reading now (ap awaited_of some) tx does.done does.back))
+          (λ q now. by_what q P (at_reading reading s) does.schedd does.queue x.tx x.what reading (λ k queue. queues k refl (waits x some k queue)) now (ap awaited_of some) tx does.done does.back))
 
   pub return_keeps : (p : Protocol) (s new : PoolState) (r : Stepped) (kept : Option (ReceiptValue (List Operation))) (ended : List (ReceiptValue Ending)) (reading : ℕ) → IsKept p s → Happens (event.Reopen Schedd kept ended reading) s new r
-      → GoesOn p (IsStepOf (event.Reopen Schedd kept ended reading)) (at_reading reading new)
+      → GoesOn p (IsStepOf (event.Reopen Schedd kept ended reading) s) (at_reading reading new)
   unfolding Happens
   return_keeps p s new r kept ended reading is does =
-      subst (λ (x : PoolState). GoesOn p (IsStepOf (event.Reopen Schedd kept ended reading)) (at_reading reading x)) (sym does.pool)
-      (booted_goes p (IsStepOf (event.Reopen Schedd kept ended reading)) (at_reading reading does.back) (boot_of (daemon_state Schedd s.daemons) + 1)
-      (back_goes p (IsStepOf (event.Reopen Schedd kept ended reading)) s does.back (is_some kept) reading (λ moment late. inl late) (λ k some queue. inr (some, queue)) is does.comes.0))
+      subst (λ (x : PoolState). GoesOn p (IsStepOf (event.Reopen Schedd kept ended reading) s) (at_reading reading x)) (sym does.pool)
+      (booted_goes p (IsStepOf (event.Reopen Schedd kept ended reading) s) (at_reading reading does.back) (boot_of (daemon_state Schedd s.daemons) + 1)
+      (back_goes p (IsStepOf (event.Reopen Schedd kept ended reading) s) s does.back (is_some kept) reading (inl refl) (λ k some queue. inr (some, queue)) is does.comes.0))

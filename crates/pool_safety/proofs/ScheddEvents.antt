@@ -1,5 +1,5 @@
 -- Events of the schedd that may plan something keep a pool.
-use Rattle.std.proofs.Common.{◌≡◌, inl, inr, ℕ, ◌≤◌, Bool, true, false, List, [], ◌∷◌, Option, Some, None, is_some, IsSomeAnd, if◌then◌else◌, slice_get, refl, sym, ◌∙◌, ap, subst}
+use Rattle.std.proofs.Common.{max, ◌≡◌, inl, inr, ℕ, Bool, true, false, List, [], ◌∷◌, Option, Some, None, is_some, IsSomeAnd, if◌then◌else◌, slice_get, refl, sym, ◌∙◌, ap, subst}
 use Rattle.std.specs.Map.{lookup}
 use Rattle.std.proofs.Math.Nat.{le-max_right}
 use Rattle.ad_eval.specs.Judgement.{Judgement, Mismatch}
@@ -42,7 +42,7 @@ use Rattle.pool_moves.specs.Happens.{Happens, Receives, is_known}
 use Rattle.pool_safety.specs.Parts.{entry_done_by, parts_of}
 use Rattle.pool_moves.specs.Schedds.{IsLook, ScheddTicks, after_look, after_receipt_of, jobs_in}
 use Rattle.pool_safety.specs.Kept.{GoesOn, IsKept, at_reading}
-use Rattle.pool_safety.specs.Steps.{IsStepOf}
+use Rattle.pool_safety.specs.Steps.{IsOrderStep, IsStepOf}
 use Rattle.pool_safety.proofs.HistoryTraces.{look_removes}
 use Rattle.pool_safety.proofs.ScheddSteps.{order_makes, pends_make, schedd_mail_makes}
 use Rattle.pool_links.proofs.Machines.{at_place}
@@ -84,13 +84,13 @@ orders_are p s (mail.Ended run how) reading linked = refl
 orders_are p s (mail.Hold job) reading linked = refl
 orders_are p s (mail.Resume job) reading linked = refl
 
-received : (p : Protocol) (P : AbstractStep → Type 0) (s : PoolState) (index : ℕ) (sent : Sent) (reading : ℕ) → ((moment : ℕ) → reading ≤ moment → P (Time moment)) → ((job : JobId) → P (Order job))
+received : (p : Protocol) (P : AbstractStep → Type 0) (s : PoolState) (index : ℕ) (sent : Sent) (reading : ℕ) → P (Time (max s.latest reading)) → ((k : AbstractStep) → IsOrderStep sent.mail k → P k)
     → IsKept p s → s.pending ≡ None → slice_get s.mails.sent index ≡ Some sent → GoesOn p P (at_reading reading (after_receipt_of index sent.mail (is_known sent.mail s) (after_mail s.schedd s.queue sent.mail reading) s))
 received p P s index sent reading time each kept none is =
     goes_after_reading p P s (at_reading reading (after_receipt_of index m (is_known m s) a s)) reading time kept
     (λ q now. receipt_goes q P (schedd_acts a.schedd a.step (ordered_by m (is_known m s)) t) index
     (schedd_goes q P t (moves_of_schedd_mail q.pool.jobs (parts_of t) m reading) a.schedd a.step (orders_of_mail (parts_of t) m reading) (ordered_by m (is_known m s)) now
-    (schedd_mail_makes P each q.pool.jobs (parts_of t) m reading)
+    (schedd_mail_makes P q.pool.jobs (parts_of t) m reading each)
     (mail_linked q (parts_of t) m reading now.linked (none_awaited t none) (mail_in sent s.mails.sent (at_place sent s.mails.sent index is)))
     (orders_are q s m reading now.linked)
     (going_passed s.queue s.schedd a.schedd (mail_as s.queue s.schedd (none_waiting q t now none) m reading).looks now.passed)))
@@ -105,7 +105,7 @@ received p P s index sent reading time each kept none is =
     a = after_mail s.schedd s.queue sent.mail reading
 
 -- ---- a tick
-ticked : (p : Protocol) (P : AbstractStep → Type 0) (s new : PoolState) (r : Stepped) (reading : ℕ) → ((moment : ℕ) → reading ≤ moment → P (Time moment)) → IsKept p s → s.pending ≡ None → ScheddTicks s reading new r
+ticked : (p : Protocol) (P : AbstractStep → Type 0) (s new : PoolState) (r : Stepped) (reading : ℕ) → P (Time (max s.latest reading)) → IsKept p s → s.pending ≡ None → ScheddTicks s reading new r
     → GoesOn p P (at_reading reading new)
 ticked p P s new r reading time kept none does =
     subst (λ (x : PoolState). GoesOn p P (at_reading reading x)) (sym does.pool)
@@ -203,7 +203,7 @@ removed_in (Some (plan.MarkRunning job)) = refl
 removed_in (Some (plan.Lengthen job until)) = refl
 removed_in (Some (plan.Grant job claim number until header)) = refl
 
-looked : (p : Protocol) (P : AbstractStep → Type 0) (s new : PoolState) (r : Stepped) (job : JobId) (reading : ℕ) → ((moment : ℕ) → reading ≤ moment → P (Time moment)) → P (Order job)
+looked : (p : Protocol) (P : AbstractStep → Type 0) (s new : PoolState) (r : Stepped) (job : JobId) (reading : ℕ) → P (Time (max s.latest reading)) → P (Order job)
     → IsKept p s → s.pending ≡ None → IsLook s (after_check s.schedd s.queue job reading) new r → GoesOn p P (at_reading reading new)
 looked p P s new r job reading time its kept none does =
     subst (λ (x : PoolState). GoesOn p P (at_reading reading x)) (sym does.pool)
@@ -225,7 +225,7 @@ looked p P s new r job reading time its kept none does =
 -- ---- the events
 pub mail_keeps : (p : Protocol) (s new : PoolState) (r : Stepped) (boot index reading : ℕ) (judged : Option Judgement) (mismatch : Option Mismatch) → IsKept p s
     → IsEventRefusal (event.Receive Schedd boot index reading judged mismatch) s None → Happens (event.Receive Schedd boot index reading judged mismatch) s new r
-    → GoesOn p (IsStepOf (event.Receive Schedd boot index reading judged mismatch)) (at_reading reading new)
+    → GoesOn p (IsStepOf (event.Receive Schedd boot index reading judged mismatch) s) (at_reading reading new)
 unfolding Happens
 mail_keeps p s new r boot index reading judged mismatch kept accepted happens = by (slice_get s.mails.sent index) refl happens
   where
@@ -233,16 +233,17 @@ mail_keeps p s new r boot index reading judged mismatch kept accepted happens = 
     none = receive_idle boot index s (then_none (receive_refusal Schedd boot index s) (IsAdRefusal (slice_get s.mails.sent index) s reading judged mismatch) accepted).0
 
     by : (o : Option Sent) → slice_get s.mails.sent index ≡ o → IsSomeAnd o (λ sent. Receives Schedd index sent.mail reading judged s new r)
-        → GoesOn p (IsStepOf (event.Receive Schedd boot index reading judged mismatch)) (at_reading reading new)
+        → GoesOn p (IsStepOf (event.Receive Schedd boot index reading judged mismatch) s) (at_reading reading new)
     by None is does = absurd does
-    by (Some sent) is does = subst (λ (x : PoolState). GoesOn p (IsStepOf (event.Receive Schedd boot index reading judged mismatch)) (at_reading reading x)) (sym does.pool)
-        (received p (IsStepOf (event.Receive Schedd boot index reading judged mismatch)) s index sent reading (λ moment late. inl late) (λ job. inr tt) kept none is)
+    by (Some sent) is does = subst (λ (x : PoolState). GoesOn p (IsStepOf (event.Receive Schedd boot index reading judged mismatch) s) (at_reading reading x)) (sym does.pool)
+        (received p (IsStepOf (event.Receive Schedd boot index reading judged mismatch) s) s index sent reading (inl refl)
+        (λ k order. inr (subst (λ (o : Option Sent). IsSomeAnd o (λ x. IsOrderStep x.mail k)) (sym is) order)) kept none is)
 
-pub tick_keeps : (p : Protocol) (s new : PoolState) (r : Stepped) (boot reading : ℕ) → IsKept p s → IsEventRefusal (event.Tick Schedd boot reading) s None → Happens (event.Tick Schedd boot reading) s new r → GoesOn p (IsStepOf (event.Tick Schedd boot reading)) (at_reading reading new)
+pub tick_keeps : (p : Protocol) (s new : PoolState) (r : Stepped) (boot reading : ℕ) → IsKept p s → IsEventRefusal (event.Tick Schedd boot reading) s None → Happens (event.Tick Schedd boot reading) s new r → GoesOn p (IsStepOf (event.Tick Schedd boot reading) s) (at_reading reading new)
 unfolding Happens
-tick_keeps p s new r boot reading kept accepted happens = ticked p (IsStepOf (event.Tick Schedd boot reading)) s new r reading (λ moment late. late) kept (tick_idle boot reading s (sym accepted)) happens
+tick_keeps p s new r boot reading kept accepted happens = ticked p (IsStepOf (event.Tick Schedd boot reading) s) s new r reading refl kept (tick_idle boot reading s (sym accepted)) happens
 
 pub look_keeps : (p : Protocol) (s new : PoolState) (r : Stepped) (boot : ℕ) (job : JobId) (reading : ℕ) → IsKept p s → IsEventRefusal (event.Check boot job reading) s None → Happens (event.Check boot job reading) s new r
-    → GoesOn p (IsStepOf (event.Check boot job reading)) (at_reading reading new)
+    → GoesOn p (IsStepOf (event.Check boot job reading) s) (at_reading reading new)
 unfolding Happens
-look_keeps p s new r boot job reading kept accepted happens = looked p (IsStepOf (event.Check boot job reading)) s new r job reading (λ moment late. inl late) (inr refl) kept (check_idle boot job reading s (sym accepted)) happens
+look_keeps p s new r boot job reading kept accepted happens = looked p (IsStepOf (event.Check boot job reading) s) s new r job reading (inl refl) (inr refl) kept (check_idle boot job reading s (sym accepted)) happens

@@ -1,6 +1,5 @@
 -- A pool that is kept goes on: over a reading, over a receipt, and by what its parts are.
-use Rattle.std.proofs.Common.{◌≡◌, ℕ, ◌≤◌, max, List, [], ◌∷◌, ◌++◌, Option, Some, None, refl, sym, ap, subst}
-use Rattle.std.proofs.Math.Nat.{le-max_right}
+use Rattle.std.proofs.Common.{◌≡◌, ℕ, max, List, [], ◌∷◌, ◌++◌, Option, Some, None, refl, sym, ap, subst}
 use Rattle.claim_id.specs.declared.numbers.JobId.{JobId}
 use Rattle.pool_mail.specs.declared.mail.Mail.{Mail}
 use Rattle.pool_pending.specs.declared.pending.Pending.{Pending}
@@ -65,11 +64,11 @@ goes_further p P mid new first second = record {
 }
 
 -- ---- a reading is taken
-pub reading_kept : (p : Protocol) (P : AbstractStep → Type 0) (s : PoolState) (reading : ℕ) → ((moment : ℕ) → reading ≤ moment → P (Time moment)) → IsKept p s → GoesOn p P (at_reading reading s)
+pub reading_kept : (p : Protocol) (P : AbstractStep → Type 0) (s : PoolState) (reading : ℕ) → P (Time (max s.latest reading)) → IsKept p s → GoesOn p P (at_reading reading s)
 reading_kept p P s reading time kept = record {
   moves = PassTime (max s.latest reading) ∷ [];
   may = stay.may;
-  steps = step_before P (Time (max s.latest reading)) [] (time (max s.latest reading) (le-max_right s.latest reading)) (no_steps P);
+  steps = step_before P (Time (max s.latest reading)) [] time (no_steps P);
   kept = record {
     linked = stay.linked;
     pending = kept.pending;
@@ -83,7 +82,7 @@ reading_kept p P s reading time kept = record {
     stay = time_linked p (parts_of s) reading kept.linked
 
 -- what happens then
-pub goes_after_reading : (p : Protocol) (P : AbstractStep → Type 0) (s new : PoolState) (reading : ℕ) → ((moment : ℕ) → reading ≤ moment → P (Time moment)) → IsKept p s
+pub goes_after_reading : (p : Protocol) (P : AbstractStep → Type 0) (s new : PoolState) (reading : ℕ) → P (Time (max s.latest reading)) → IsKept p s
     → ((q : Protocol) → IsKept q (at_reading reading s) → GoesOn q P new) → GoesOn p P new
 goes_after_reading p P s new reading time kept more =
     let first : GoesOn p P (at_reading reading s) = reading_kept p P s reading time kept in

@@ -16,7 +16,7 @@ use Rattle.pool_protocol.specs.Protocol.{NewJob, Protocol}
 use Rattle.pool_protocol.specs.ProtocolMove.{Commit, confirm_move}
 use Rattle.pool_state.specs.declared.state.PoolState.{PoolState}
 use Rattle.pool_view.specs.AbstractPool.{IsIn}
-use Rattle.pool_view.specs.AbstractStep.{AbstractStep, Acknowledge}
+use Rattle.pool_view.specs.AbstractStep.{AbstractStep}
 use Rattle.queue_tx.specs.declared.key.Key.{Key}
 use Rattle.queue_tx.specs.declared.key.Key.TheVariants.{Header, Proc}
 use Rattle.queue_tx.specs.Keys.{is_above, key_cmp}
@@ -41,7 +41,7 @@ use Rattle.pool_moves.specs.Happens.{Happens}
 use Rattle.pool_moves.specs.Logging.{IsLogged, Leaver, after_unfinished, cluster_jobs, counts_logged, leaver_of, with_logged, with_submission}
 use Rattle.pool_safety.specs.Parts.{awaited_by, awaited_of, parts_of}
 use Rattle.pool_safety.specs.Kept.{GoesOn, IsKept, IsPendingTx, IsTxOf}
-use Rattle.pool_safety.specs.Steps.{IsQueueStep, IsStepOf}
+use Rattle.pool_safety.specs.Steps.{IsAcknowledgeStep, IsPlanStep, IsQueueStep, IsStepOf}
 use Rattle.pool_safety.proofs.ScheddSteps.{logged_jobs_steps, logged_plan_steps}
 use Rattle.pool_safety.proofs.ScheddEvents.{mark_stays, parts_marked}
 use Rattle.pool_safety.proofs.ScheddGoing.{goes_by}
@@ -88,9 +88,9 @@ periodic_before q new jobs cluster count named brings (Proc job) periodic before
         not_before job cluster count before (subst (λ (l : List JobId). IsIn job l) named (subst (λ k. IsIn k (map new_job_id jobs)) (sym same) (in_map new_job_id j jobs there)))
 
 -- ---- a plan
-plan_goes : (read : List ℕ → Option ClaimId) → IsReader read → (p : Protocol) (P : AbstractStep → Type 0) → ((k : AbstractStep) → IsQueueStep k → P k) → (s : PoolState) (pl : JobPlan) (q : KeyedAds) → IsKept p s → AwaitsPlan p (parts_of s) pl → queue_after s.queue (plan_ops pl) ≡ Ok q
+plan_goes : (read : List ℕ → Option ClaimId) → IsReader read → (p : Protocol) (P : AbstractStep → Type 0) (s : PoolState) (pl : JobPlan) (q : KeyedAds) → ((k : AbstractStep) → IsPlanStep pl k → P k) → IsKept p s → AwaitsPlan p (parts_of s) pl → queue_after s.queue (plan_ops pl) ≡ Ok q
     → GoesOn p P (after_unfinished q (leaver_of read s.queue (Plan pl)) (Plan pl) s)
-plan_goes read reads p P queues s pl q kept w h =
+plan_goes read reads p P s pl q queues kept w h =
     subst (λ (o : Option JobPlan). GoesOn p P (as_waits o)) (sym w.waiting)
     (goes_by p P (moves_of_logged s.schedd q pl) (parts_with_plan pl q l.finished (parts_of s)) (as_waits (Some pl))
     (logged_plan_steps P p (parts_of s) pl s.schedd q queues w)
@@ -126,10 +126,11 @@ plan_goes read reads p P queues s pl q kept w h =
     }
 
 -- ---- a submission
-jobs_go : (p : Protocol) (P : AbstractStep → Type 0) → ((k : AbstractStep) → IsQueueStep k → P k) → ((job : JobId) → P (Acknowledge job)) → (s : PoolState) (cluster count : ℕ) (tx : List Operation) (q : KeyedAds) → IsKept p s → AwaitsJobs p (parts_of s) (cluster_jobs cluster count) tx → queue_after s.queue tx ≡ Ok q → GoesOn p P (with_submission q cluster count s)
-jobs_go p P queues tells s cluster count tx q kept w h =
+jobs_go : (p : Protocol) (P : AbstractStep → Type 0) (s : PoolState) (cluster count : ℕ) (tx : List Operation) (q : KeyedAds) → ((k : AbstractStep) → IsQueueStep (Submission cluster count) k → P k)
+    → ((k : AbstractStep) → IsAcknowledgeStep (Submission cluster count) k → P k) → IsKept p s → AwaitsJobs p (parts_of s) (cluster_jobs cluster count) tx → queue_after s.queue tx ≡ Ok q → GoesOn p P (with_submission q cluster count s)
+jobs_go p P s cluster count tx q queues tells kept w h =
     goes_by p P (Commit ∷ map confirm_move w.jobs) (parts_marked mark (parts_with_jobs (cluster_jobs cluster count) q (parts_of s))) (with_submission q cluster count s)
-    (logged_jobs_steps P p (parts_of s) (cluster_jobs cluster count) tx queues tells w)
+    (logged_jobs_steps P p (parts_of s) cluster count tx queues tells w)
     (mark_stays p (Commit ∷ map confirm_move w.jobs) (parts_with_jobs (cluster_jobs cluster count) q (parts_of s)) mark
     (jobs_logged p (parts_of s) (cluster_jobs cluster count) tx q kept.linked w h))
     (record {
@@ -156,20 +157,23 @@ jobs_go p P queues tells s cluster count tx q kept w h =
     mark = if is_above s.schedd.passed first then s.schedd.passed else None
 
 -- ---- what was unfinished
-by_what : (read : List ℕ → Option ClaimId) → IsReader read → (p : Protocol) (P : AbstractStep → Type 0) → ((k : AbstractStep) → IsQueueStep k → P k) → ((job : JobId) → P (Acknowledge job)) → (s : PoolState) (tx : List Operation) (what : Unfinished) (q : KeyedAds) → IsKept p s → awaited_of s.pending ≡ Some (awaited_by tx what) → IsTxOf what tx → queue_after s.queue tx ≡ Ok q
+by_what : (read : List ℕ → Option ClaimId) → IsReader read → (p : Protocol) (P : AbstractStep → Type 0) (s : PoolState) (tx : List Operation) (what : Unfinished) (q : KeyedAds) → ((k : AbstractStep) → IsQueueStep what k → P k) → ((k : AbstractStep) → IsAcknowledgeStep what k → P k) → IsKept p s → awaited_of s.pending ≡ Some (awaited_by tx what) → IsTxOf what tx → queue_after s.queue tx ≡ Ok q
     → GoesOn p P (after_unfinished q (leaver_of read s.queue what) what s)
-by_what read reads p P queues tells s tx (Submission cluster count) q kept awaited of h =
-    jobs_go p P queues tells s cluster count tx q kept (subst (λ (o : Option Awaited). Awaits p (parts_of s) o) awaited kept.linked.awaited) h
-by_what read reads p P queues tells s tx (Plan pl) q kept awaited of h =
-    plan_goes read reads p P queues s pl q kept (subst (λ (o : Option Awaited). Awaits p (parts_of s) o) awaited kept.linked.awaited)
+by_what read reads p P s tx (Submission cluster count) q queues tells kept awaited of h =
+    jobs_go p P s cluster count tx q queues tells kept (subst (λ (o : Option Awaited). Awaits p (parts_of s) o) awaited kept.linked.awaited) h
+by_what read reads p P s tx (Plan pl) q queues tells kept awaited of h =
+    plan_goes read reads p P s pl q queues kept (subst (λ (o : Option Awaited). Awaits p (parts_of s) o) awaited kept.linked.awaited)
     (subst (λ (ops : List Operation). queue_after s.queue ops ≡ Ok q) of h)
 
-pub logged_keeps : (read : List ℕ → Option ClaimId) → IsReader read → (p : Protocol) (s new : PoolState) (r : Stepped) (boot : ℕ) (receipt : ReceiptValue (List Operation)) → IsKept p s → Happens (event.Logged boot receipt) s new r → GoesOn p (IsStepOf (event.Logged boot receipt)) new
+pub logged_keeps : (read : List ℕ → Option ClaimId) → IsReader read → (p : Protocol) (s new : PoolState) (r : Stepped) (boot : ℕ) (receipt : ReceiptValue (List Operation)) → IsKept p s → Happens (event.Logged boot receipt) s new r → GoesOn p (IsStepOf (event.Logged boot receipt) s) new
 unfolding Happens
 logged_keeps read reads p s new r boot receipt kept happens = by s.pending refl kept.pending happens
   where
-    by : (o : Option Pending) → s.pending ≡ o → IsPendingTx o → IsSomeAnd o (λ x. IsLogged s x new r) → GoesOn p (IsStepOf (event.Logged boot receipt)) new
+    waits : (x : Pending) → s.pending ≡ Some x → (k : AbstractStep) → IsQueueStep x.what k ⊎ IsAcknowledgeStep x.what k → IsStepOf (event.Logged boot receipt) s k
+    waits x is k h = subst (λ (o : Option Pending). IsSomeAnd o (λ y. IsQueueStep y.what k ⊎ IsAcknowledgeStep y.what k)) (sym is) h
+
+    by : (o : Option Pending) → s.pending ≡ o → IsPendingTx o → IsSomeAnd o (λ x. IsLogged s x new r) → GoesOn p (IsStepOf (event.Logged boot receipt) s) new
     by None is tx does = absurd does
     by (Some x) is tx does =
-        subst (λ (t : PoolState). GoesOn p (IsStepOf (event.Logged boot receipt)) t) (sym (does.pool read reads))
-        (by_what read reads p (IsStepOf (event.Logged boot receipt)) (λ k is. inl is) (λ job. inr tt) s x.tx x.what does.queue kept (ap awaited_of is) tx does.done)
+        subst (λ (t : PoolState). GoesOn p (IsStepOf (event.Logged boot receipt) s) t) (sym (does.pool read reads))
+        (by_what read reads p (IsStepOf (event.Logged boot receipt) s) s x.tx x.what does.queue (λ k queue. waits x is k (inl queue)) (λ k told. waits x is k (inr told)) kept (ap awaited_of is) tx does.done)

@@ -1,5 +1,5 @@
 -- A pool to which jobs are submitted is kept.
-use Rattle.std.proofs.Common.{◌≡◌, ℕ, zero, suc, ◌+◌, ◌<◌, ◌≤◌, Bool, true, false, cond, ◌||◌, List, [], ◌∷◌, ◌++◌, length, map, Ok, Option, Some, None, is_some, append_assoc, append-nil, add-one, add-zero, zero-add, eq-eqb, refl, sym, ◌∙◌, ap, subst, arith}
+use Rattle.std.proofs.Common.{max, ◌≡◌, ℕ, zero, suc, ◌+◌, ◌<◌, Bool, true, false, cond, ◌||◌, List, [], ◌∷◌, ◌++◌, length, map, Ok, Option, Some, None, is_some, append_assoc, append-nil, add-one, add-zero, zero-add, eq-eqb, refl, sym, ◌∙◌, ap, subst, arith}
 use Rattle.std.specs.Map.{keys_of, lookup}
 use Rattle.ad_tree.specs.Ad.{Attributes}
 use Rattle.claim_id.specs.declared.numbers.JobId.{JobId}
@@ -172,7 +172,7 @@ submitted_goes p P s cluster ads kept none idle unused =
     ordered : IsOrdered s.queue
     ordered = (subst (λ (o : Option Awaited). Awaits p (parts_of s) o) (none_awaited s none) kept.linked.awaited).fits.queue
 
-pub unused_goes : (p : Protocol) (P : AbstractStep → Type 0) (s : PoolState) (cluster : ℕ) (ads : List Attributes) (reading : ℕ) → ((moment : ℕ) → reading ≤ moment → P (Time moment)) → IsKept p s → s.pending ≡ None → AreIdle ads → is_used s.queue s.finished cluster ≡ false
+pub unused_goes : (p : Protocol) (P : AbstractStep → Type 0) (s : PoolState) (cluster : ℕ) (ads : List Attributes) (reading : ℕ) → P (Time (max s.latest reading)) → IsKept p s → s.pending ≡ None → AreIdle ads → is_used s.queue s.finished cluster ≡ false
     → GoesOn p P (at_reading reading (record s { pending = Some (submission_of cluster ads s) }))
 unused_goes p P s cluster ads reading time kept none idle unused =
     goes_after_reading p P s (at_reading reading (record s { pending = Some (submission_of cluster ads s) })) reading time kept

@@ -1,6 +1,5 @@
 -- Each event of a startd that a pool accepts takes it on.
 use Rattle.std.proofs.Common.{◌≡◌, inl, inr, ℕ, ◌+◌, max, List, [], ◌∷◌, Option, Some, None, IfSome, IsSomeAnd, is_some, slice_get, refl, sym, ◌∙◌, ap, subst}
-use Rattle.std.proofs.Math.Nat.{le-max_right}
 use Rattle.std.proofs.lemmas.Option.{none-some}
 use Rattle.ad_eval.specs.Judgement.{Judgement, Mismatch}
 use Rattle.pool_event.specs.declared.answer.Stepped.{Stepped}
@@ -19,6 +18,7 @@ use Rattle.pool_tables.specs.declared.refusal.StepError.TheVariants as error
 use Rattle.pool_tables.specs.declared.sent.Sent.{Sent}
 use Rattle.pool_tables.specs.declared.states.DaemonState.{DaemonState}
 use Rattle.pool_view.specs.AbstractPool.{IsIn}
+use Rattle.pool_view.specs.AbstractStep.{AbstractStep, Mark}
 use Rattle.pool_view.specs.declared.run.EndReport.{EndReport}
 use Rattle.queue_tx.specs.Operations.{Operation}
 use Rattle.receipt_roll.specs.Values.{ReceiptValue}
@@ -38,7 +38,7 @@ use Rattle.pool_moves.specs.Happens.{Happens, IsReopened, Receives, boots}
 use Rattle.pool_safety.specs.Parts.{parts_of}
 use Rattle.pool_moves.specs.Startds.{IsReceivedStep, IsStartdStep, StartdReceives, ends_after}
 use Rattle.pool_safety.specs.Kept.{GoesOn, IsKept, at_reading}
-use Rattle.pool_safety.specs.Steps.{IsStepOf}
+use Rattle.pool_safety.specs.Steps.{IsMailStep, IsStepOf}
 use Rattle.pool_safety.proofs.StartdSteps.{boots_make, ended_makes, startd_mail_makes, ticks_make}
 use Rattle.pool_safety.proofs.StepKinds.{time_first}
 use Rattle.pool_safety.proofs.Mailing.{mail_in}
@@ -64,6 +64,7 @@ linked_at p s reading kept = (time_linked p (parts_of s) reading kept.linked).li
 -- The mail that is received, and the startd. What was judged is of the mail's ad and its slot's.
 pub record IsGot (p : Protocol) (s : PoolState) (machine index reading : ℕ) (judged : Option Judgement) (new : PoolState) (r : Stepped) : Type 0 where
   pub sent : Sent
+  pub mailed : slice_get s.mails.sent index ≡ Some sent
   pub startd : StartdValue
   pub at : slice_get s.machines machine ≡ Some startd
   pub step : IsReceivedStep machine index (after_mail startd sent.mail judged reading) s new r
@@ -88,6 +89,7 @@ got p s new r machine boot index reading judged mismatch kept free happens =
     let fits = judged_fits s machine v sent.mail reading judged mismatch own.1 (linked.startds machine v own.1).numbered (subst (λ o. IsAdRefusal o s reading judged mismatch None) found.1 both.1) in
     record {
       sent = sent;
+      mailed = found.1;
       startd = v;
       at = own.1;
       step = own.2;
@@ -107,16 +109,19 @@ got_goes p s new r machine index reading judged kept g =
 
 pub received_goes_on : (p : Protocol) (s new : PoolState) (r : Stepped) (machine boot index reading : ℕ) (judged : Option Judgement) (mismatch : Option Mismatch) → IsKept p s
     → IsEventRefusal (event.Receive (Startd machine) boot index reading judged mismatch) s None → Happens (event.Receive (Startd machine) boot index reading judged mismatch) s new r
-    → GoesOn p (IsStepOf (event.Receive (Startd machine) boot index reading judged mismatch)) (at_reading reading new)
+    → GoesOn p (IsStepOf (event.Receive (Startd machine) boot index reading judged mismatch) s) (at_reading reading new)
 received_goes_on p s new r machine boot index reading judged mismatch kept free happens =
     let g = got p s new r machine boot index reading judged mismatch kept free happens in
     let v = (linked_at p s reading kept).startds machine g.startd g.at in
-    go_on p (IsStepOf (event.Receive (Startd machine) boot index reading judged mismatch)) (PassTime (max s.latest reading) ∷ moves_of_startd_mail g.startd g.sent.mail judged reading) (at_reading reading new) (got_goes p s new r machine index reading judged kept g)
-    (time_first (IsStepOf (event.Receive (Startd machine) boot index reading judged mismatch)) p (max s.latest reading) (moves_of_startd_mail g.startd g.sent.mail judged reading) (inl (le-max_right s.latest reading))
-    (startd_mail_makes (IsStepOf (event.Receive (Startd machine) boot index reading judged mismatch)) (λ m. inr (inl tt)) g.startd machine v.sound v.numbered (λ x m is. inr (inr is)) (λ x until is. inr (inr is)) g.sent.mail judged reading))
+    go_on p (IsStepOf (event.Receive (Startd machine) boot index reading judged mismatch) s) (PassTime (max s.latest reading) ∷ moves_of_startd_mail g.startd g.sent.mail judged reading) (at_reading reading new) (got_goes p s new r machine index reading judged kept g)
+    (time_first (IsStepOf (event.Receive (Startd machine) boot index reading judged mismatch) s) p (max s.latest reading) (moves_of_startd_mail g.startd g.sent.mail judged reading) (inl refl)
+    (startd_mail_makes (IsStepOf (event.Receive (Startd machine) boot index reading judged mismatch) s) (λ m. each (Mark m) tt) g.startd machine v.sound v.numbered g.sent.mail judged reading each))
+  where
+    each : (k : AbstractStep) → IsMailStep machine (got p s new r machine boot index reading judged mismatch kept free happens).sent.mail judged k → IsStepOf (event.Receive (Startd machine) boot index reading judged mismatch) s k
+    each k is = inr (subst (λ (o : Option Sent). IsSomeAnd o (λ sent. IsMailStep machine sent.mail judged k)) (sym (got p s new r machine boot index reading judged mismatch kept free happens).mailed) is)
 
 -- ---- time
-pub ticked_goes_on : (p : Protocol) (s new : PoolState) (r : Stepped) (machine boot reading : ℕ) → IsKept p s → Happens (event.Tick (Startd machine) boot reading) s new r → GoesOn p (IsStepOf (event.Tick (Startd machine) boot reading)) (at_reading reading new)
+pub ticked_goes_on : (p : Protocol) (s new : PoolState) (r : Stepped) (machine boot reading : ℕ) → IsKept p s → Happens (event.Tick (Startd machine) boot reading) s new r → GoesOn p (IsStepOf (event.Tick (Startd machine) boot reading) s) (at_reading reading new)
 unfolding Happens
 ticked_goes_on p s new r machine boot reading kept happens =
     let own : (v : StartdValue) × (slice_get s.machines machine ≡ Some v) × IsStartdStep machine (after_tick v reading) [] s new r = some_and (slice_get s.machines machine) (λ v. IsStartdStep machine (after_tick v reading) [] s new r) happens in
@@ -127,14 +132,14 @@ ticked_goes_on p s new r machine boot reading kept happens =
     (acts s machine v a.startd a.step [] kept.boots own.1 refl)
     (tick_linked (protocol_at reading s p) (parts_at_reading reading (parts_of s)) machine v linked own.1 reading) in
     let it = linked.startds machine v own.1 in
-    go_on p (IsStepOf (event.Tick (Startd machine) boot reading)) (PassTime (max s.latest reading) ∷ moves_of_ticks v reading) (at_reading reading new)
+    go_on p (IsStepOf (event.Tick (Startd machine) boot reading) s) (PassTime (max s.latest reading) ∷ moves_of_ticks v reading) (at_reading reading new)
     (subst (λ t. GoesBy p (PassTime (max s.latest reading) ∷ moves_of_ticks v reading) (at_reading reading t)) (sym own.2.pool) goes)
-    (time_first (IsStepOf (event.Tick (Startd machine) boot reading)) p (max s.latest reading) (moves_of_ticks v reading) (inl (le-max_right s.latest reading))
-    (ticks_make (IsStepOf (event.Tick (Startd machine) boot reading)) (λ m. inr tt) v machine it.sound it.numbered reading))
+    (time_first (IsStepOf (event.Tick (Startd machine) boot reading) s) p (max s.latest reading) (moves_of_ticks v reading) (inl refl)
+    (ticks_make (IsStepOf (event.Tick (Startd machine) boot reading) s) (λ m. inr tt) v machine it.sound it.numbered reading))
 
 -- ---- the end of a run
 pub ended_goes_on : (p : Protocol) (s new : PoolState) (r : Stepped) (machine boot reading : ℕ) (receipt : ReceiptValue Ending) → IsKept p s → Happens (event.Ended machine boot receipt reading) s new r
-    → GoesOn p (IsStepOf (event.Ended machine boot receipt reading)) (at_reading reading new)
+    → GoesOn p (IsStepOf (event.Ended machine boot receipt reading) s) (at_reading reading new)
 unfolding Happens
 ended_goes_on p s new r machine boot reading receipt kept happens =
     let ending : Ending = receipt.item in
@@ -149,10 +154,10 @@ ended_goes_on p s new r machine boot reading receipt kept happens =
     (acts s machine v a.startd a.step ends kept.boots own.1 (end_machine v ending reading))
     (end_linked (protocol_at reading s p) (parts_at_reading reading (parts_of s)) machine v ending reading linked own.1) in
     let it = linked.startds machine v own.1 in
-    go_on p (IsStepOf (event.Ended machine boot receipt reading)) (PassTime (max s.latest reading) ∷ moves_of_ended_run v ending) (at_reading reading new)
+    go_on p (IsStepOf (event.Ended machine boot receipt reading) s) (PassTime (max s.latest reading) ∷ moves_of_ended_run v ending) (at_reading reading new)
     (subst (λ t. GoesBy p (PassTime (max s.latest reading) ∷ moves_of_ended_run v ending) (at_reading reading t)) (sym same) goes)
-    (time_first (IsStepOf (event.Ended machine boot receipt reading)) p (max s.latest reading) (moves_of_ended_run v ending) (inl (le-max_right s.latest reading))
-    (ended_makes (IsStepOf (event.Ended machine boot receipt reading)) (λ m. inr (inl tt)) v machine it.sound it.numbered ending (λ x how on is. inr (inr (on, is, refl)))))
+    (time_first (IsStepOf (event.Ended machine boot receipt reading) s) p (max s.latest reading) (moves_of_ended_run v ending) (inl refl)
+    (ended_makes (IsStepOf (event.Ended machine boot receipt reading) s) (λ m. inr tt) v machine it.sound it.numbered ending (λ x how on is. inr (on, is, refl))))
 
 -- ---- a boot
 -- a daemon that comes back is there
@@ -162,7 +167,7 @@ daemon_there (Some old) machine h = (old, refl)
 
 pub booted_goes_on : (p : Protocol) (s new : PoolState) (r : Stepped) (machine reading : ℕ) (kept_tx : Option (ReceiptValue (List Operation))) (ended : List (ReceiptValue Ending)) → IsKept p s
     → IsEventRefusal (event.Reopen (Startd machine) kept_tx ended reading) s None → Happens (event.Reopen (Startd machine) kept_tx ended reading) s new r
-    → GoesOn p (IsStepOf (event.Reopen (Startd machine) kept_tx ended reading)) (at_reading reading new)
+    → GoesOn p (IsStepOf (event.Reopen (Startd machine) kept_tx ended reading) s) (at_reading reading new)
 unfolding Happens
 booted_goes_on p s new r machine reading kept_tx ended kept free happens =
     let back : IsReopened (Startd machine) (is_some kept_tx) reading s new r = happens in
@@ -179,7 +184,7 @@ booted_goes_on p s new r machine reading kept_tx ended kept free happens =
     let goes = acted_goes p s (boots boot (Startd machine) (startd_acts machine a.startd a.step [] s)) machine reading a [] (moves_of_boots v) kept
     (acts_in_boot s machine boot daemon.0 a.startd a.step [] kept.boots daemon.1 next)
     (boot_linked (protocol_at reading s p) (parts_at_reading reading (parts_of s)) machine v linked own.1 reading) in
-    go_on p (IsStepOf (event.Reopen (Startd machine) kept_tx ended reading)) (PassTime (max s.latest reading) ∷ moves_of_boots v) (at_reading reading new)
+    go_on p (IsStepOf (event.Reopen (Startd machine) kept_tx ended reading) s) (PassTime (max s.latest reading) ∷ moves_of_boots v) (at_reading reading new)
     (subst (λ t. GoesBy p (PassTime (max s.latest reading) ∷ moves_of_boots v) (at_reading reading t)) (sym same) goes)
-    (time_first (IsStepOf (event.Reopen (Startd machine) kept_tx ended reading)) p (max s.latest reading) (moves_of_boots v) (inl (le-max_right s.latest reading))
-    (boots_make (IsStepOf (event.Reopen (Startd machine) kept_tx ended reading)) (λ m. inr (inl tt)) v machine it.sound it.numbered (λ x is. inr (inr (is, refl)))))
+    (time_first (IsStepOf (event.Reopen (Startd machine) kept_tx ended reading) s) p (max s.latest reading) (moves_of_boots v) (inl refl)
+    (boots_make (IsStepOf (event.Reopen (Startd machine) kept_tx ended reading) s) (λ m. inr tt) v machine it.sound it.numbered (λ x is. inr (is, refl))))

@@ -29,7 +29,7 @@ use Rattle.startd_slot.specs.declared.held.Rival.{Rival}
 use Rattle.startd_slot.specs.declared.held.Running.{Running}
 use Rattle.startd_slot.specs.declared.slot.Slot.{Slot}
 use Rattle.startd_slot.specs.declared.slot.SlotState.{SlotState}
-use Rattle.startd_slot.specs.ActivateTable.{claim_row, free_row, new_row}
+use Rattle.startd_slot.specs.ActivateTable.{claim_row, free_row, new_row, run_of}
 use Rattle.startd_slot.specs.AskTable.{ask_row, contested_row, is_rank_too_low, offered_row}
 use Rattle.startd_slot.specs.EndingTable.{how_of, mark_in}
 use Rattle.startd_slot.specs.ReleaseTable.{held_row, is_busy, release_row}
@@ -41,9 +41,17 @@ use Rattle.startd_core.specs.Sound.{IsSound}
 use Rattle.startd_core.specs.Startds.{StartdValue, place_of, slot_in, slot_of, slot_of_claim}
 use Rattle.startd_core.specs.TickTable.{is_after, is_lease_past, is_start_on, is_unheard, row_in, slot_row}
 use Rattle.startd_core.specs.TimeMoves.{moves_of_tick}
+use Rattle.pool_safety.specs.Steps.{IsMailStep}
 use Rattle.pool_safety.proofs.StepKinds.{MakeSteps, make_append, no_steps}
 
 -- ---- one slot
+run_there : (s : SlotState) (r : Running) (run : RunNo) → runs_on s run ≡ true → running_of s ≡ Some r → r.run ≡ run
+run_there s r run is there = same_run-true r.run run (sym (ap (λ o. is_run o run) there) ∙ is)
+
+by_known : {R : Type 0} (F : R → Type 0) (x y : R) (b : Bool) → (b ≡ true → F x) → F y → F (if b then x else y)
+by_known F x y true then_x else_y = then_x refl
+by_known F x y false then_x else_y = else_y
+
 module _ (P : AbstractStep → Type 0) (mark : (m : Marks) → P (Mark m)) where
   claim_ends_make : (o : Option Held) (ms : List ProtocolMove) → MakeSteps P ms → MakeSteps P (claim_ends o ms)
   claim_ends_make None ms rest p k there = rest p k there
@@ -153,37 +161,42 @@ module _ (P : AbstractStep → Type 0) (mark : (m : Marks) → P (Mark m)) where
       by PreemptingVacating = by_if (λ r. MakeSteps P (moves_of_tick r s)) _ _ (is_lease_past s reading) (λ p. no_steps P) (by_if (λ r. MakeSteps P (moves_of_tick r s)) _ _ (is_after s.entered set.vacate reading) (λ p. no_steps P) (λ p. no_steps P))
       by PreemptingKilling = λ p. no_steps P
 
-  -- ---- a mail of a slot
-  module _ (slot : SlotId) (starts : (r : Run) (m : Marks) → r.slot ≡ slot → P (Start r m)) (extends : (r : Run) (until : ℕ) → r.slot ≡ slot → P (Extend r until)) where
-    free_makes : (run : RunNo) (job : JobId) (until : ℕ) (judged : Option Judgement) (reading : ℕ)
+  -- ---- an Activate
+  module _ (slot : SlotId) where
+    -- the run starts by the judgement
+    abbrev LetsStart : RunNo → JobId → ℕ → Option Judgement → Type 0
+    LetsStart run job until judged = (j : Judgement) (m : Marks) → judged ≡ Some j → P (Start (run_in_slot slot (run_of (record { run = run; job = job; until = until }) j)) m)
+
+    free_makes : (run : RunNo) (job : JobId) (until : ℕ) (judged : Option Judgement) (reading : ℕ) → LetsStart run job until judged
         → MakeSteps P (moves_of_activate (free_row (record { run = run; job = job; until = until }) (is_some judged) reading) slot (record { run = run; job = job; until = until }) judged)
-    free_makes run job until None reading =
+    free_makes run job until None reading starts =
         by_if (λ r. MakeSteps P (moves_of_activate r slot (record { run = run; job = job; until = until }) None)) _ _ (nat_le until reading) (burns_make run) (burns_make run)
-    free_makes run job until (Some judged) reading =
+    free_makes run job until (Some judged) reading starts =
         by_if (λ r. MakeSteps P (moves_of_activate r slot (record { run = run; job = job; until = until }) (Some judged))) _ _ (nat_le until reading) (burns_make run) begins
       where
         begins : MakeSteps P (starts_by (Some judged) slot (record { run = run; job = job; until = until }))
-        begins p k (inl same) = subst P (sym same) (starts _ _ refl)
+        begins p k (inl same) = subst P (sym same) (starts judged _ refl)
         begins p k (inr there) = absurd there
 
-    new_makes : (o : Option Running) (run : RunNo) (job : JobId) (until : ℕ) (judged : Option Judgement) (reading : ℕ)
+    new_makes : (o : Option Running) (run : RunNo) (job : JobId) (until : ℕ) (judged : Option Judgement) (reading : ℕ) → LetsStart run job until judged
         → MakeSteps P (moves_of_activate (new_row o (record { run = run; job = job; until = until }) (is_some judged) reading) slot (record { run = run; job = job; until = until }) judged)
-    new_makes None run job until judged reading = free_makes run job until judged reading
-    new_makes (Some other) run job until judged reading = burns_make run
+    new_makes None run job until judged reading starts = free_makes run job until judged reading starts
+    new_makes (Some other) run job until judged reading starts = burns_make run
 
-    claimed_makes : (o : Option Held) (spent : Bool) (run : RunNo) (job : JobId) (until : ℕ) (judged : Option Judgement) (reading : ℕ)
+    claimed_makes : (o : Option Held) (spent : Bool) (run : RunNo) (job : JobId) (until : ℕ) (judged : Option Judgement) (reading : ℕ) → LetsStart run job until judged
         → MakeSteps P (moves_of_activate (claim_row o spent (record { run = run; job = job; until = until }) (is_some judged) reading) slot (record { run = run; job = job; until = until }) judged)
-    claimed_makes None spent run job until judged reading = gone_makes spent run
-    claimed_makes (Some h) spent run job until judged reading =
+    claimed_makes None spent run job until judged reading starts = gone_makes spent run
+    claimed_makes (Some h) spent run job until judged reading starts =
         by_if (λ r. MakeSteps P (moves_of_activate r slot (record { run = run; job = job; until = until }) judged)) _ _ (nat_le run.number h.last)
-        (λ p. no_steps P) (new_makes h.running run job until judged reading)
+        (λ p. no_steps P) (new_makes h.running run job until judged reading starts)
 
-    goes_make : (o : Option Running) (until reading : ℕ) → MakeSteps P (goes_on o slot until reading)
-    goes_make None until reading = λ p. no_steps P
-    goes_make (Some r) until reading = by (nat_lt reading until)
+    -- ---- an Alive
+    goes_make : (o : Option Running) (until reading : ℕ) → ((r : Running) → o ≡ Some r → P (Extend (run_in_slot slot r) until)) → MakeSteps P (goes_on o slot until reading)
+    goes_make None until reading extends = λ p. no_steps P
+    goes_make (Some r) until reading extends = by (nat_lt reading until)
       where
         by : (b : Bool) → MakeSteps P (if b then ExtendRun (run_in_slot slot r) until ∷ [] else [])
-        by true p k (inl same) = subst P (sym same) (extends _ _ refl)
+        by true p k (inl same) = subst P (sym same) (extends r refl)
         by true p k (inr there) = absurd there
         by false p k there = absurd there
 
@@ -195,29 +208,28 @@ module _ (P : AbstractStep → Type 0) (mark : (m : Marks) → P (Mark m)) where
     unknown_alive_makes (Some h) spent s run until reading = ended_alive_makes h.ended s run until reading
     unknown_alive_makes None spent s run until reading = by_if (λ r. MakeSteps P (moves_of_alive r s slot run until reading)) _ _ spent (λ p. no_steps P) (λ p. no_steps P)
 
-    alive_makes : (boot : ℕ) (s : SlotState) (run : RunNo) (until reading : ℕ) → MakeSteps P (moves_of_alive (known_run s boot run) s slot run until reading)
-    alive_makes boot s run until reading = by_if (λ r. MakeSteps P (moves_of_alive r s slot run until reading)) _ _ (runs_on s run)
-        (goes_make (running_of s) until reading) (unknown_alive_makes (held_of s run.claim) (is_spent s boot run) s run until reading)
+    alive_makes : (boot : ℕ) (s : SlotState) (run : RunNo) (until reading : ℕ) → ((r : Running) → r.run ≡ run → P (Extend (run_in_slot slot r) until)) → MakeSteps P (moves_of_alive (known_run s boot run) s slot run until reading)
+    alive_makes boot s run until reading extends = by_known (λ r. MakeSteps P (moves_of_alive r s slot run until reading)) _ _ (runs_on s run)
+        (λ is. goes_make (running_of s) until reading (λ r there. extends r (run_there s r run is there))) (unknown_alive_makes (held_of s run.claim) (is_spent s boot run) s run until reading)
 
-  mail_makes : (boot : ℕ) (slot : Slot) → ((r : Run) (m : Marks) → r.slot ≡ slot.id → P (Start r m)) → ((r : Run) (until : ℕ) → r.slot ≡ slot.id → P (Extend r until))
-      → (m : Mail) (judged : Option Judgement) (reading : ℕ) → MakeSteps P (moves_of_mail boot slot m judged reading)
+  mail_makes : (boot : ℕ) (slot : Slot) (m : Mail) (judged : Option Judgement) (reading : ℕ) → ((k : AbstractStep) → IsMailStep slot.id.machine m judged k → P k) → MakeSteps P (moves_of_mail boot slot m judged reading)
   unfolding moves_of_mail
-  mail_makes boot slot starts extends (mail.Ask claim job ad by_priority) judged reading = ask_makes claim job by_priority (is_some judged) (rank_of slot.ad ad reading) slot.state
-  mail_makes boot slot starts extends (mail.Activate run job ad until) judged reading =
-      claimed_makes slot.id starts extends (held_of slot.state run.claim) (is_spent slot.state boot run) run job until judged reading
-  mail_makes boot slot starts extends (mail.Alive run until) judged reading = alive_makes slot.id starts extends boot slot.state run until reading
-  mail_makes boot slot starts extends (mail.Stop run) judged reading = stop_makes boot run slot.state
-  mail_makes boot slot starts extends (mail.Release claim) judged reading = release_makes slot.state claim
-  mail_makes boot slot starts extends (mail.Update ad) judged reading = λ p. no_steps P
-  mail_makes boot slot starts extends (mail.Matched found) judged reading = λ p. no_steps P
-  mail_makes boot slot starts extends (mail.Granted claim job) judged reading = λ p. no_steps P
-  mail_makes boot slot starts extends (mail.Denied claim run job why) judged reading = λ p. no_steps P
-  mail_makes boot slot starts extends (mail.Seen run until) judged reading = λ p. no_steps P
-  mail_makes boot slot starts extends (mail.Gone run kept) judged reading = λ p. no_steps P
-  mail_makes boot slot starts extends (mail.Ended run how) judged reading = λ p. no_steps P
-  mail_makes boot slot starts extends (mail.Remove job) judged reading = λ p. no_steps P
-  mail_makes boot slot starts extends (mail.Hold job) judged reading = λ p. no_steps P
-  mail_makes boot slot starts extends (mail.Resume job) judged reading = λ p. no_steps P
+  mail_makes boot slot (mail.Ask claim job ad by_priority) judged reading each = ask_makes claim job by_priority (is_some judged) (rank_of slot.ad ad reading) slot.state
+  mail_makes boot slot (mail.Activate run job ad until) judged reading each =
+      claimed_makes slot.id (held_of slot.state run.claim) (is_spent slot.state boot run) run job until judged reading (λ j ms is. each (Start _ ms) (refl, refl, refl, refl, is))
+  mail_makes boot slot (mail.Alive run until) judged reading each = alive_makes slot.id boot slot.state run until reading (λ r is. each (Extend _ until) (refl, is, refl))
+  mail_makes boot slot (mail.Stop run) judged reading each = stop_makes boot run slot.state
+  mail_makes boot slot (mail.Release claim) judged reading each = release_makes slot.state claim
+  mail_makes boot slot (mail.Update ad) judged reading each = λ p. no_steps P
+  mail_makes boot slot (mail.Matched found) judged reading each = λ p. no_steps P
+  mail_makes boot slot (mail.Granted claim job) judged reading each = λ p. no_steps P
+  mail_makes boot slot (mail.Denied claim run job why) judged reading each = λ p. no_steps P
+  mail_makes boot slot (mail.Seen run until) judged reading each = λ p. no_steps P
+  mail_makes boot slot (mail.Gone run kept) judged reading each = λ p. no_steps P
+  mail_makes boot slot (mail.Ended run how) judged reading each = λ p. no_steps P
+  mail_makes boot slot (mail.Remove job) judged reading each = λ p. no_steps P
+  mail_makes boot slot (mail.Hold job) judged reading each = λ p. no_steps P
+  mail_makes boot slot (mail.Resume job) judged reading each = λ p. no_steps P
 
   all_make : (moves : Slot → List ProtocolMove) (slots : List Slot) → ((slot : Slot) → IsIn slot slots → MakeSteps P (moves slot)) → MakeSteps P (moves_of_all moves slots)
   all_make moves [] each p = no_steps P
@@ -243,13 +255,12 @@ module _ (P : AbstractStep → Type 0) (mark : (m : Marks) → P (Mark m)) (v : 
   at_slot : (slot : Slot) (r : Run) → slot.id.machine ≡ v.machine.number → r.slot ≡ slot.id → r.slot.machine ≡ machine
   at_slot slot r its is = ap (λ (x : SlotId). x.machine) is ∙ (its ∙ number)
 
-  pub startd_mail_makes : ((r : Run) (m : Marks) → r.slot.machine ≡ machine → P (Start r m)) → ((r : Run) (until : ℕ) → r.slot.machine ≡ machine → P (Extend r until))
-      → (m : Mail) (judged : Option Judgement) (reading : ℕ) → MakeSteps P (moves_of_startd_mail v m judged reading)
-  startd_mail_makes starts extends m judged reading = by (slot_of_claim v (asked_claim m)) (λ slot found. claimed_machine v (asked_claim m) slot sound found)
+  pub startd_mail_makes : (m : Mail) (judged : Option Judgement) (reading : ℕ) → ((k : AbstractStep) → IsMailStep machine m judged k → P k) → MakeSteps P (moves_of_startd_mail v m judged reading)
+  startd_mail_makes m judged reading each = by (slot_of_claim v (asked_claim m)) (λ slot found. claimed_machine v (asked_claim m) slot sound found)
     where
       by : (o : Option Slot) → ((slot : Slot) → o ≡ Some slot → slot.id.machine ≡ v.machine.number) → MakeSteps P (moves_in_slot v.machine.boot o m judged reading)
       by None its p = no_steps P
-      by (Some slot) its p = mail_makes P mark v.machine.boot slot (λ r ms is. starts r ms (at_slot slot r (its slot refl) is)) (λ r until is. extends r until (at_slot slot r (its slot refl) is)) m judged reading p
+      by (Some slot) its p = mail_makes P mark v.machine.boot slot m judged reading (λ k is. each k (subst (λ n. IsMailStep n m judged k) (its slot refl ∙ number) is)) p
 
   pub ticks_make : (reading : ℕ) → MakeSteps P (moves_of_ticks v reading)
   ticks_make reading = all_make P mark (λ slot. moves_of_tick (slot_row slot v.settings reading) slot.state) v.slots (λ slot there. tick_makes P mark slot v.settings reading)
@@ -261,12 +272,9 @@ module _ (P : AbstractStep → Type 0) (mark : (m : Marks) → P (Mark m)) (v : 
   pub ended_makes : (ending : Ending) → ((r : Run) (how : How) → r.slot.machine ≡ machine → r.run ≡ ending.run → P (Stop r (Some how))) → MakeSteps P (moves_of_ended_run v ending)
   ended_makes ending stops = by (slot_of v ending.run.claim.slot) (λ slot found. found_machine v ending.run.claim.slot slot sound found)
     where
-      of_run : (slot : Slot) (r : Running) → runs_on slot.state ending.run ≡ true → running_of slot.state ≡ Some r → r.run ≡ ending.run
-      of_run slot r is there = same_run-true r.run ending.run (sym (ap (λ o. is_run o ending.run) there) ∙ is)
-
       here : (slot : Slot) (runs : Bool) → runs_on slot.state ending.run ≡ runs → slot.id.machine ≡ v.machine.number → MakeSteps P (ends_where runs slot ending)
       here slot false is its p = no_steps P
-      here slot true is its p = end_makes P mark slot ending (λ r how there. stops (run_in_slot slot.id r) how (at_slot slot (run_in_slot slot.id r) its refl) (of_run slot r is there)) p
+      here slot true is its p = end_makes P mark slot ending (λ r how there. stops (run_in_slot slot.id r) how (at_slot slot (run_in_slot slot.id r) its refl) (run_there slot.state r ending.run is there)) p
 
       by : (o : Option Slot) → ((slot : Slot) → o ≡ Some slot → slot.id.machine ≡ v.machine.number) → MakeSteps P (ends_in_slot o ending)
       by None its p = no_steps P

@@ -1,11 +1,10 @@
 -- Which steps moves make, whatever the protocol.
 use Rattle.std.proofs.Common.{◌⊎◌, inl, inr, ℕ, List, [], ◌∷◌, ◌++◌, map, refl, sym, subst}
-use Rattle.claim_id.specs.declared.numbers.JobId.{JobId}
 use Rattle.pool_links.proofs.Kept.{in_both, in_first, in_second}
 use Rattle.pool_protocol.specs.Protocol.{NewJob, Protocol}
-use Rattle.pool_protocol.specs.ProtocolMove.{ProtocolMove, Confirm, PassTime, TakeOrder, all_steps, confirm_move, protocol_after, protocol_after_all, steps_of}
+use Rattle.pool_protocol.specs.ProtocolMove.{ProtocolMove, Confirm, PassTime, all_steps, confirm_move, protocol_after, protocol_after_all, steps_of}
 use Rattle.pool_view.specs.AbstractPool.{IsIn}
-use Rattle.pool_view.specs.AbstractStep.{AbstractStep, Acknowledge, Order, Time}
+use Rattle.pool_view.specs.AbstractStep.{AbstractStep, Acknowledge, Time}
 use Rattle.pool_safety.specs.Steps.{AreSteps}
 
 -- ---- lists of steps
@@ -46,12 +45,7 @@ make_append P ms ns first second p = steps_append P p ms ns (first p) (second (p
 pub time_first : (P : AbstractStep → Type 0) (p : Protocol) (moment : ℕ) (ms : List ProtocolMove) → P (Time moment) → MakeSteps P ms → AreSteps P (all_steps p (PassTime moment ∷ ms))
 time_first P p moment ms is rest = step_before P (Time moment) (all_steps (protocol_after p (PassTime moment)) ms) is (rest (protocol_after p (PassTime moment)))
 
-pub orders_make : (P : AbstractStep → Type 0) (jobs : List JobId) → ((job : JobId) → IsIn job jobs → P (Order job)) → MakeSteps P (map TakeOrder jobs)
-orders_make P [] each p k there = absurd there
-orders_make P (job ∷ jobs) each p k (inl same) = subst P (sym same) (each job (inl refl))
-orders_make P (job ∷ jobs) each p k (inr there) = orders_make P jobs (λ j h. each j (inr h)) (protocol_after p (TakeOrder job)) k there
-
-pub confirms_make : (P : AbstractStep → Type 0) (jobs : List NewJob) → ((job : JobId) → P (Acknowledge job)) → MakeSteps P (map confirm_move jobs)
+pub confirms_make : (P : AbstractStep → Type 0) (jobs : List NewJob) → ((j : NewJob) → IsIn j jobs → P (Acknowledge j.job)) → MakeSteps P (map confirm_move jobs)
 confirms_make P [] each p k there = absurd there
-confirms_make P (j ∷ js) each p k (inl same) = subst P (sym same) (each j.job)
-confirms_make P (j ∷ js) each p k (inr there) = confirms_make P js each (protocol_after p (Confirm j.job)) k there
+confirms_make P (j ∷ js) each p k (inl same) = subst P (sym same) (each j (inl refl))
+confirms_make P (j ∷ js) each p k (inr there) = confirms_make P js (λ i h. each i (inr h)) (protocol_after p (Confirm j.job)) k there

@@ -76,7 +76,7 @@ OrdersOnly e s steps = (job : JobId) → IsIn (Order job) steps → OrdersRemova
 -- what is shown is moved by steps of the event that may be made, one after the other
 abbrev pub MovesView : Event → PoolState → PoolState → Type 0
 MovesView e s new = (v w : AbstractPool) → HasView s v → HasView new w
-    → (steps : List AbstractStep) × Takes v steps w × AreStepsOf e steps × OrdersOnly e s steps
+    → (steps : List AbstractStep) × Takes v steps w × AreStepsOf e s steps × OrdersOnly e s steps
 
 -- what is launched is a run of what is shown, which was matched
 abbrev pub LaunchesRun : Answer → PoolState → Type 0

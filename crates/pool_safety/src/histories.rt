@@ -61,13 +61,13 @@ pub fn histories_are_safe()
     ensures endings_said { OfHistories AreEndingsSaid }
 {}
 
-/// An event moves the abstract pool by steps that may be made, one after the other, each of a kind
-/// that the event makes, and so do all events from one pool of a history to another. A step of an
+/// An event moves the abstract pool by steps of its own that may be made, one after the other, and
+/// all events from one pool of a history to another move it by steps that may be made. A step of an
 /// event orders a job's removal only where the event does.
 pub fn events_make_steps()
     ensures event { (o : Opening) (list : List Step) (s : PoolState) (e : Event) (r : Stepped)
         (new : PoolState) (v w : AbstractPool) → IsEvent o list s e r new v w
-        → (steps : List AbstractStep) × Takes v steps w × AreStepsOf e steps
+        → (steps : List AbstractStep) × Takes v steps w × AreStepsOf e s steps
         × OrdersOnly e s steps }
     ensures all { (o : Opening) (list more : List Step) (s t : PoolState) (v w : AbstractPool)
         → IsHistory o list s → LeadsTo s more t → HasView s v → HasView t w → Moves v w }

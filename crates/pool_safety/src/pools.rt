@@ -46,12 +46,12 @@ pub fn openings_are_kept()
 pub fn orders_and_matches_keep_pools()
     ensures orders { (p : Protocol) (s : PoolState) (v : Verb) (job : JobId) (reading : ℕ)
         (new : PoolState) (r : Stepped) → IsKept p s → Happens (Order v job reading) s new r
-        → GoesOn p (IsStepOf (Order v job reading)) (at_reading reading new) }
+        → GoesOn p (IsStepOf (Order v job reading) s) (at_reading reading new) }
     ensures matches { (p : Protocol) (s : PoolState) (list : List Match) (judged : List Judgement)
         (reading : ℕ) (new : PoolState) (r : Stepped) → IsKept p s
         → IsGiven (Matches list judged reading) s
         → Happens (Matches list judged reading) s new r
-        → GoesOn p (IsStepOf (Matches list judged reading)) (at_reading reading new) }
+        → GoesOn p (IsStepOf (Matches list judged reading) s) (at_reading reading new) }
 {}
 
 /// The matchmaker's mails, ticks and boots keep the pool.
@@ -59,25 +59,25 @@ pub fn matchmakers_keep_pools()
     ensures mails { (p : Protocol) (s : PoolState) (boot index reading : ℕ)
         (judged : Option Judgement) (mismatch : Option Mismatch) (new : PoolState) (r : Stepped)
         → IsKept p s → Happens (Receive Matchmaker boot index reading judged mismatch) s new r
-        → GoesOn p (IsStepOf (Receive Matchmaker boot index reading judged mismatch))
+        → GoesOn p (IsStepOf (Receive Matchmaker boot index reading judged mismatch) s)
         (at_reading reading new) }
     ensures ticks { (p : Protocol) (s : PoolState) (boot reading : ℕ) (new : PoolState)
         (r : Stepped) → IsKept p s → Happens (Tick Matchmaker boot reading) s new r
-        → GoesOn p (IsStepOf (Tick Matchmaker boot reading)) (at_reading reading new) }
+        → GoesOn p (IsStepOf (Tick Matchmaker boot reading) s) (at_reading reading new) }
     ensures boots { (p : Protocol) (s : PoolState) (kept : Option (ReceiptValue (List Operation)))
         (ended : List (ReceiptValue Ending)) (reading : ℕ) (new : PoolState) (r : Stepped)
         → IsKept p s → Happens (Reopen Matchmaker kept ended reading) s new r
-        → GoesOn p (IsStepOf (Reopen Matchmaker kept ended reading)) (at_reading reading new) }
+        → GoesOn p (IsStepOf (Reopen Matchmaker kept ended reading) s) (at_reading reading new) }
 {}
 
 /// So do a crash of any daemon, and the close.
 pub fn crashes_and_closes_keep_pools()
     ensures crashes { (p : Protocol) (s : PoolState) (who : Daemon) (new : PoolState) (r : Stepped)
-        → IsKept p s → Happens (Crash who) s new r → GoesOn p (IsStepOf (Crash who)) new }
+        → IsKept p s → Happens (Crash who) s new r → GoesOn p (IsStepOf (Crash who) s) new }
     ensures closes { (p : Protocol) (s : PoolState) (length reading : ℕ) (mismatch : Mismatch)
         (new : PoolState) (r : Stepped) → IsKept p s
         → Happens (Close length reading mismatch) s new r
-        → GoesOn p (IsStepOf (Close length reading mismatch)) (at_reading reading new) }
+        → GoesOn p (IsStepOf (Close length reading mismatch) s) (at_reading reading new) }
 {}
 
 /// Every event that somebody gives to a pool and that it accepts keeps the pool, where few clusters
@@ -85,13 +85,12 @@ pub fn crashes_and_closes_keep_pools()
 pub fn events_keep_pools()
     ensures { (p : Protocol) (s : PoolState) (e : Event) (r : Stepped) (new : PoolState)
         → IsKept p s → AreFew s → IsGiven e s → IsRefusal e s None → Reacts s e r new
-        → GoesOn p (IsStepOf e) new }
+        → GoesOn p (IsStepOf e s) new }
 {}
 
-/// It moves what the pool shows by steps of its own kinds that may be made, and orders a job's
-/// removal only where it asks for that. What it launches is a run that is shown, of the permit's
-/// job and of what that job's ad says, and it was started by a match of its slot's ad and its
-/// job's.
+/// It moves what the pool shows by steps of its own that may be made, and orders a job's removal
+/// only where it asks for that. What it launches is a run that is shown, of the permit's job and of
+/// what that job's ad says, and it was started by a match of its slot's ad and its job's.
 pub fn events_move_views()
     ensures steps { (p : Protocol) (s : PoolState) (e : Event) (r : Stepped) (new : PoolState)
         → IsKept p s → AreFew s → Accepts s e r new → MovesView e s new }

@@ -31,7 +31,7 @@ pub fn received_mails_keep_pools()
         (judged : Option Judgement) (mismatch : Option Mismatch) → IsKept p s
         → IsEventRefusal (Receive Schedd boot index reading judged mismatch) s None
         → Happens (Receive Schedd boot index reading judged mismatch) s new r
-        → GoesOn p (IsStepOf (Receive Schedd boot index reading judged mismatch))
+        → GoesOn p (IsStepOf (Receive Schedd boot index reading judged mismatch) s)
         (at_reading reading new) }
 {}
 
@@ -41,11 +41,11 @@ pub fn ticks_and_looks_keep_pools()
     ensures ticks { (p : Protocol) (s new : PoolState) (r : Stepped) (boot reading : ℕ)
         → IsKept p s → IsEventRefusal (Tick Schedd boot reading) s None
         → Happens (Tick Schedd boot reading) s new r
-        → GoesOn p (IsStepOf (Tick Schedd boot reading)) (at_reading reading new) }
+        → GoesOn p (IsStepOf (Tick Schedd boot reading) s) (at_reading reading new) }
     ensures looks { (p : Protocol) (s new : PoolState) (r : Stepped) (boot : ℕ) (job : JobId)
         (reading : ℕ) → IsKept p s → IsEventRefusal (Check boot job reading) s None
         → Happens (Check boot job reading) s new r
-        → GoesOn p (IsStepOf (Check boot job reading)) (at_reading reading new) }
+        → GoesOn p (IsStepOf (Check boot job reading) s) (at_reading reading new) }
 {}
 
 /// Jobs that are submitted keep the pool, where nothing refuses the event and few clusters are
@@ -55,7 +55,7 @@ pub fn submissions_keep_pools()
         (jobs : List Attributes) (reading : ℕ) → IsKept p s → AreFew s
         → IsGiven (Submit boot jobs reading) s → IsRefusal (Submit boot jobs reading) s None
         → Happens (Submit boot jobs reading) s new r
-        → GoesOn p (IsStepOf (Submit boot jobs reading)) (at_reading reading new) }
+        → GoesOn p (IsStepOf (Submit boot jobs reading) s) (at_reading reading new) }
 {}
 
 /// Few clusters are used when a pool opens, and every event leaves it so. `read` is any function
@@ -73,7 +73,7 @@ pub fn logged_transactions_keep_pools()
     ensures { (read : List ℕ → Option ClaimId) → IsReader read → (p : Protocol)
         (s new : PoolState) (r : Stepped) (boot : ℕ) (receipt : ReceiptValue (List Operation))
         → IsKept p s → Happens (Logged boot receipt) s new r
-        → GoesOn p (IsStepOf (Logged boot receipt)) new }
+        → GoesOn p (IsStepOf (Logged boot receipt) s) new }
 {}
 
 /// It is kept where the schedd comes back, with its unfinished transaction and without it.
@@ -82,5 +82,5 @@ pub fn returns_keep_pools()
         (s new : PoolState) (r : Stepped) (kept : Option (ReceiptValue (List Operation)))
         (ended : List (ReceiptValue Ending)) (reading : ℕ) → IsKept p s
         → Happens (Reopen Schedd kept ended reading) s new r
-        → GoesOn p (IsStepOf (Reopen Schedd kept ended reading)) (at_reading reading new) }
+        → GoesOn p (IsStepOf (Reopen Schedd kept ended reading) s) (at_reading reading new) }
 {}

@@ -28,7 +28,7 @@ pub fn received_mails_keep_pools()
         (judged : Option Judgement) (mismatch : Option Mismatch) → IsKept p s
         → IsEventRefusal (Receive (Startd machine) boot index reading judged mismatch) s None
         → Happens (Receive (Startd machine) boot index reading judged mismatch) s new r
-        → GoesOn p (IsStepOf (Receive (Startd machine) boot index reading judged mismatch))
+        → GoesOn p (IsStepOf (Receive (Startd machine) boot index reading judged mismatch) s)
         (at_reading reading new) }
 {}
 
@@ -49,7 +49,7 @@ pub fn launches_are_matched()
 pub fn ticks_keep_pools()
     ensures { (p : Protocol) (s new : PoolState) (r : Stepped) (machine boot reading : ℕ)
         → IsKept p s → Happens (Tick (Startd machine) boot reading) s new r
-        → GoesOn p (IsStepOf (Tick (Startd machine) boot reading)) (at_reading reading new) }
+        → GoesOn p (IsStepOf (Tick (Startd machine) boot reading) s) (at_reading reading new) }
 {}
 
 /// So does one in which the program of a run ends. The end is said of the run that is on its slot,
@@ -58,7 +58,7 @@ pub fn ended_runs_keep_pools()
     ensures { (p : Protocol) (s new : PoolState) (r : Stepped) (machine boot reading : ℕ)
         (receipt : ReceiptValue Ending) → IsKept p s
         → Happens (Ended machine boot receipt reading) s new r
-        → GoesOn p (IsStepOf (Ended machine boot receipt reading)) (at_reading reading new) }
+        → GoesOn p (IsStepOf (Ended machine boot receipt reading) s) (at_reading reading new) }
 {}
 
 /// And so does one that comes back, in the next boot of its machine, where nothing refuses the
@@ -68,6 +68,6 @@ pub fn boots_keep_pools()
         (kept : Option (ReceiptValue (List Operation))) (ended : List (ReceiptValue Ending))
         → IsKept p s → IsEventRefusal (Reopen (Startd machine) kept ended reading) s None
         → Happens (Reopen (Startd machine) kept ended reading) s new r
-        → GoesOn p (IsStepOf (Reopen (Startd machine) kept ended reading))
+        → GoesOn p (IsStepOf (Reopen (Startd machine) kept ended reading) s)
         (at_reading reading new) }
 {}
