@@ -28,8 +28,8 @@ use Rattle.pool_tables.specs.declared.sent.Sent.{Sent}
 use Rattle.pool_tables.specs.declared.states.DaemonState.{DaemonState}
 use Rattle.queue_tx.specs.Operations.{Operation}
 use Rattle.receipt_roll.specs.Values.{ReceiptValue}
-use Rattle.schedd_core.specs.Checks.{is_check_due}
-use Rattle.schedd_core.specs.Ticks.{is_due}
+use Rattle.schedd_state.specs.DueChecks.{is_check_due}
+use Rattle.schedd_state.specs.DueLines.{is_due}
 
 abbrev pub IsOther : Refusal → Type 0
 IsOther r = r ≡ Some error.Bytes → ⊥

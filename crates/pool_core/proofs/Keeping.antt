@@ -34,7 +34,7 @@ use Rattle.pool_view.specs.AbstractPool.{AbstractPool}
 use Rattle.pool_view.specs.Safe.{Safe}
 use Rattle.pool_view.specs.Views.{pool_of}
 use Rattle.pool_view.specs.declared.view.View.{View}
-use Rattle.schedd_core.specs.Reopening.{IsReader}
+use Rattle.schedd_state.specs.Reopening.{IsReader}
 use Rattle.schedd_core.specs.ScheddParts.{IsOrdered}
 
 -- ---- a pool opens

@@ -21,8 +21,8 @@ ghost use Rattle.pool_tables.specs.MailLists.{IsMailTo, IsNextMail, IsOfPool, ma
 ghost use Rattle.pool_view.specs.AbstractPool.{AbstractPool};
 ghost use Rattle.pool_view.specs.Safe.{Safe};
 ghost use Rattle.pool_view.specs.Views.{pool_of};
-ghost use Rattle.schedd_core.specs.DueChecks.{IsFirstDue};
-ghost use Rattle.schedd_core.specs.Reopening.{IsReader};
+ghost use Rattle.schedd_state.specs.DueChecks.{IsFirstDue};
+ghost use Rattle.schedd_state.specs.Reopening.{IsReader};
 ghost use Rattle.schedd_core.specs.ScheddParts.{IsOrdered};
 
 use crate::happening;

@@ -23,7 +23,7 @@ use Rattle.queue_tx.specs.Kinds.{kind_of}
 use Rattle.queue_tx.specs.Queues.{KeyedAds, ad_at}
 use Rattle.schedd_table.specs.JobPlaces.{is_left}
 use Rattle.schedd_core.specs.JobStates.{ShowsEntry, ShowsJob}
-use Rattle.schedd_core.specs.Reopening.{is_under_at, is_under_kind, under_by}
+use Rattle.schedd_state.specs.Reopening.{is_under_at, is_under_kind, under_by}
 use Rattle.schedd_core.specs.ScheddParts.{IsThere}
 use Rattle.schedd_core.proofs.OpenFits.{job_under, listed, opening_fits}
 use Rattle.schedd_core.proofs.PlanMay.{in_left}

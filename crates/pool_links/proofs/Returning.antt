@@ -19,9 +19,9 @@ use Rattle.schedd_table.specs.declared.runs.KeptRun.{KeptRun}
 use Rattle.schedd_table.specs.KeptRuns.{run_of}
 use Rattle.schedd_core.specs.JobStates.{ShowsJobs}
 use Rattle.schedd_core.specs.Logging.{IsReopened, after_plan, reopened}
-use Rattle.schedd_core.specs.Reopening.{IsReader, claims_behind, found_runs, one_claim, still_left}
+use Rattle.schedd_state.specs.Reopening.{IsReader, claims_behind, found_runs, one_claim, still_left}
 use Rattle.schedd_core.specs.ScheddParts.{Fits, IsPart}
-use Rattle.schedd_core.specs.Schedds.{ScheddValue}
+use Rattle.schedd_state.specs.Schedds.{ScheddValue}
 use Rattle.schedd_core.proofs.BackFits.{reopened_fits}
 use Rattle.schedd_core.proofs.KeptPlans.{kept_as_logged, reopened_part}
 use Rattle.schedd_core.proofs.LoggedMay.{part_committed}

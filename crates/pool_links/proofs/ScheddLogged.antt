@@ -20,7 +20,7 @@ use Rattle.schedd_table.specs.KeptRuns.{run_of}
 use Rattle.schedd_core.specs.Logging.{activates, after_plan, alives, is_stopped, mails_of_plan, numbered, run_of_job, stops}
 use Rattle.schedd_core.specs.PlanChanges.{change_by, lease_moves, moves_of_logged, told_leases}
 use Rattle.schedd_core.specs.ScheddParts.{Fits, IsLeased, IsPart}
-use Rattle.schedd_core.specs.Schedds.{ScheddValue}
+use Rattle.schedd_state.specs.Schedds.{ScheddValue}
 use Rattle.schedd_core.proofs.LoggedMails.{logged_may, logged_part, mails_leased, run_found}
 use Rattle.schedd_core.proofs.LoggedMay.{runs_are}
 use Rattle.schedd_core.proofs.PlanJobs.{Shown, plan_there, shown}

@@ -23,14 +23,14 @@ use Rattle.schedd_plan.specs.JobAttributes.{status_of}
 use Rattle.schedd_table.specs.JobPlaces.{is_left, kind_place, place_by}
 use Rattle.schedd_table.specs.MailTable.{order_row}
 use Rattle.schedd_table.specs.OrderTable.{remove_plan}
-use Rattle.schedd_core.specs.declared.answer.ScheddStep.{ScheddStep}
+use Rattle.schedd_state.specs.declared.answer.ScheddStep.{ScheddStep}
 use Rattle.schedd_core.specs.Checks.{after_check}
 use Rattle.schedd_core.specs.JobStates.{ShowsJobs}
 use Rattle.schedd_core.specs.Logging.{IsReopened, after_plan}
 use Rattle.schedd_core.specs.PlanChanges.{change_of, moves_of_mail, moves_of_order, order_moves, pends}
 use Rattle.schedd_core.specs.Rows.{after_mail, after_row, mail_row}
 use Rattle.schedd_core.specs.ScheddParts.{Fits, FitsOn, IsFitting, IsHeard, IsOfClaim, IsPart}
-use Rattle.schedd_core.specs.Schedds.{ScheddValue, After}
+use Rattle.schedd_state.specs.Schedds.{ScheddValue, After}
 use Rattle.schedd_core.specs.Ticks.{IsTicked}
 use Rattle.schedd_core.proofs.EventFits.{check_fits, mail_fits, tick_fits}
 use Rattle.schedd_core.proofs.EventMay.{check_may, mail_may, tick_may}

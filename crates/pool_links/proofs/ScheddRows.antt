@@ -41,11 +41,13 @@ use Rattle.schedd_table.specs.KeptClaims.{place_of_claim, engages, staged, with_
 use Rattle.schedd_table.specs.KeptRuns.{place_of_run}
 use Rattle.schedd_table.specs.MailTable.{is_idle_place, granted_at, granted_row, is_spent_why, denied_claim, denied_row, order_row, fate_of_gone, is_leaving_in, fate_in, after_fate}
 use Rattle.schedd_table.specs.OrderTable.{remove_plan, hold_left, hold_under, hold_plan, resume_plan, resume_marked, can_be_held, is_waiting}
-use Rattle.schedd_core.specs.declared.answer.ScheddStep.{ScheddStep}
+use Rattle.schedd_state.specs.declared.answer.ScheddStep.{ScheddStep}
 use Rattle.schedd_core.specs.Checks.{after_check, after_check_by, policy_plan, with_look}
 use Rattle.schedd_core.specs.Rows.{after_mail, after_row, asked_in, claim_asked, ended_at, ended_row, ended_with, gone_at, gone_row, known_job, mail_row, noted_in, run_at, seen_at, stage_known}
-use Rattle.schedd_core.specs.Schedds.{ScheddValue, After, waits_for}
-use Rattle.schedd_core.specs.Ticks.{after_give_up, after_grant, after_lengthen, after_line, after_past, granted_by, left_at, left_claims, lengthened_by, tick_line, IsTicked}
+use Rattle.schedd_state.specs.Schedds.{ScheddValue, After, waits_for}
+use Rattle.schedd_core.specs.Ticks.{after_give_up, after_grant, after_lengthen, after_line, after_past, granted_by, lengthened_by, IsTicked}
+use Rattle.schedd_state.specs.Leaving.{left_at, left_claims}
+use Rattle.schedd_state.specs.DueLines.{tick_line}
 use Rattle.schedd_core.proofs.FitsAfter.{Frees}
 use Rattle.schedd_core.proofs.Freed.{let_go_frees, end_frees}
 use Rattle.schedd_core.proofs.Places.{in_appended, in_at, in_changed, in_removed}

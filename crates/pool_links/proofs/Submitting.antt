@@ -21,7 +21,7 @@ use Rattle.queue_tx.specs.Operations.{Operation}
 use Rattle.queue_tx.specs.Queues.{KeyedAds, ad_at, queue_after}
 use Rattle.schedd_table.specs.JobPlaces.{is_left}
 use Rattle.schedd_core.specs.JobStates.{ShowsEntry, ShowsJob, ShowsJobs}
-use Rattle.schedd_core.specs.Reopening.{is_under_at, is_under_kind, under_by}
+use Rattle.schedd_state.specs.Reopening.{is_under_at, is_under_kind, under_by}
 use Rattle.schedd_core.specs.ScheddParts.{Fits, IsMarked, IsPart}
 use Rattle.schedd_core.proofs.FitsAfter.{run_is_under}
 use Rattle.pool_links.specs.Linked.{BringsJobs, IsPlaced, IsFinishedAs, AwaitsJobs, AwaitsNothing, IsLinked, StayLinked, new_job_id}

@@ -28,7 +28,7 @@ use Rattle.schedd_table.specs.declared.claims.KeptClaim.{KeptClaim}
 use Rattle.schedd_core.specs.Logging.{IsReopened, after_plan}
 use Rattle.schedd_core.specs.PlanChanges.{change_of}
 use Rattle.schedd_core.specs.ScheddParts.{Fits, IsFitting, IsHeard, IsOrdered, IsPart}
-use Rattle.schedd_core.specs.Schedds.{ScheddValue}
+use Rattle.schedd_state.specs.Schedds.{ScheddValue}
 use Rattle.startd_slot.specs.declared.held.Held.{Held}
 use Rattle.startd_slot.specs.declared.slot.Slot.{Slot}
 use Rattle.startd_slot.specs.SlotMoves.{IsTold}

@@ -4,7 +4,7 @@ use Rattle.claim_id.specs.declared.numbers.JobId.{JobId}
 use Rattle.pool_mail.specs.declared.settings.Settings.{Settings}
 use Rattle.pool_view.specs.AbstractPool.{IsIn}
 use Rattle.schedd_core.specs.ScheddParts.{IsMarked, IsOrdered, IsThere}
-use Rattle.schedd_core.specs.Schedds.{IsOpened}
+use Rattle.schedd_state.specs.Schedds.{IsOpened}
 use Rattle.startd_slot.specs.declared.slot.Slot.{Slot}
 use Rattle.startd_slot.specs.SlotStates.{slot_after_boot}
 use Rattle.startd_core.specs.Sound.{IsSound}

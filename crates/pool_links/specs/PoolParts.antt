@@ -9,7 +9,7 @@ use Rattle.pool_view.specs.declared.run.EndReport.{EndReport}
 use Rattle.queue_tx.specs.Operations.{Operation}
 use Rattle.queue_tx.specs.Queues.{KeyedAds}
 use Rattle.schedd_plan.specs.declared.plan.JobPlan.{JobPlan}
-use Rattle.schedd_core.specs.Schedds.{ScheddValue}
+use Rattle.schedd_state.specs.Schedds.{ScheddValue}
 use Rattle.startd_slot.specs.declared.slot.Slot.{Slot}
 use Rattle.startd_slot.specs.SlotMoves.{part_of}
 use Rattle.startd_core.specs.Startds.{StartdValue, slot_of}

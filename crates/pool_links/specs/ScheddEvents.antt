@@ -19,12 +19,12 @@ use Rattle.queue_tx.specs.Operations.{Operation}
 use Rattle.queue_tx.specs.Queues.{KeyedAds, ad_at}
 use Rattle.schedd_plan.specs.declared.plan.JobPlan.{JobPlan}
 use Rattle.schedd_plan.specs.declared.plan.JobPlan.TheVariants as plan
-use Rattle.schedd_core.specs.declared.answer.ScheddStep.{ScheddStep}
+use Rattle.schedd_state.specs.declared.answer.ScheddStep.{ScheddStep}
 use Rattle.schedd_core.specs.JobStates.{NamesRun}
 use Rattle.schedd_core.specs.Logging.{after_plan, mails_of_plan, numbered}
 use Rattle.schedd_core.specs.PlanChanges.{Jobs, how_of, moves_of_mail}
 use Rattle.schedd_core.specs.Rows.{after_mail}
-use Rattle.schedd_core.specs.Schedds.{ScheddValue}
+use Rattle.schedd_state.specs.Schedds.{ScheddValue}
 use Rattle.pool_links.specs.PoolParts.{Awaited, NewJobs, Planned, PoolParts}
 
 -- ---- an event that may plan something

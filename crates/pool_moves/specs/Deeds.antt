@@ -10,8 +10,8 @@ use Rattle.pool_state.specs.declared.state.PoolState.{PoolState}
 use Rattle.pool_tables.specs.declared.sent.Sent.{Sent}
 use Rattle.pool_tables.specs.MailLists.{MailsValue, after_receipt, receiver_of, sent_now}
 use Rattle.pool_view.specs.declared.run.EndReport.{EndReport}
-use Rattle.schedd_core.specs.declared.answer.ScheddStep.{ScheddStep}
-use Rattle.schedd_core.specs.Schedds.{ScheddValue}
+use Rattle.schedd_state.specs.declared.answer.ScheddStep.{ScheddStep}
+use Rattle.schedd_state.specs.Schedds.{ScheddValue}
 use Rattle.startd_core.specs.declared.answer.StartdStep.{StartdStep}
 use Rattle.startd_core.specs.Startds.{StartdValue}
 use Rattle.pool_moves.specs.Answers.{answered, answer_of_startd, answer_with, pending_by}

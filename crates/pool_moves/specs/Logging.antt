@@ -21,11 +21,11 @@ use Rattle.queue_tx.specs.declared.key.Key.{Key}
 use Rattle.queue_tx.specs.declared.key.Key.TheVariants.{Proc}
 use Rattle.queue_tx.specs.Keys.{key_cmp}
 use Rattle.queue_tx.specs.Queues.{KeyedAds, ad_at, queue_after}
-use Rattle.schedd_core.specs.DueChecks.{with_new}
+use Rattle.schedd_state.specs.DueChecks.{with_new}
 use Rattle.schedd_core.specs.Logging.{after_logged, numbered, IsReopened}
 use Rattle.schedd_core.specs.PlanChanges.{how_of}
-use Rattle.schedd_core.specs.Reopening.{IsReader, claim_in}
-use Rattle.schedd_core.specs.Schedds.{ScheddValue}
+use Rattle.schedd_state.specs.Reopening.{IsReader, claim_in}
+use Rattle.schedd_state.specs.Schedds.{ScheddValue}
 use Rattle.schedd_plan.specs.declared.plan.JobPlan.{JobPlan}
 use Rattle.schedd_plan.specs.declared.plan.JobPlan.TheVariants as plan
 use Rattle.schedd_plan.specs.Plans.{job_of}

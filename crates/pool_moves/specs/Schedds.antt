@@ -5,12 +5,12 @@ use Rattle.pool_event.specs.declared.answer.Stepped.{Stepped}
 use Rattle.pool_state.specs.declared.state.PoolState.{PoolState}
 use Rattle.pool_mail.specs.declared.mail.Mail.{Mail}
 use Rattle.pool_pending.specs.Plans.{ordered_job}
-use Rattle.schedd_core.specs.declared.answer.ScheddStep.{ScheddStep}
+use Rattle.schedd_state.specs.declared.answer.ScheddStep.{ScheddStep}
 use Rattle.queue_tx.specs.declared.key.Key.{Key}
 use Rattle.schedd_core.specs.Checks.{after_check}
-use Rattle.schedd_core.specs.DueChecks.{Passes}
+use Rattle.schedd_state.specs.DueChecks.{Passes}
 use Rattle.schedd_core.specs.Rows.{after_mail}
-use Rattle.schedd_core.specs.Schedds.{ScheddValue, After}
+use Rattle.schedd_state.specs.Schedds.{ScheddValue, After}
 use Rattle.schedd_core.specs.Ticks.{IsTicked}
 use Rattle.pool_moves.specs.Deeds.{schedd_acts, schedd_answer, ordered_by, receives}
 

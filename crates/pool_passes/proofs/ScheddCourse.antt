@@ -36,8 +36,8 @@ use Rattle.pool_tables.specs.OrderTables.{is_due_for}
 use Rattle.queue_tx.specs.Operations.{Operation}
 use Rattle.queue_tx.specs.Queues.{KeyedAds}
 use Rattle.receipt_roll.specs.Values.{ReceiptValue}
-use Rattle.schedd_core.specs.Checks.{is_check_due}
-use Rattle.schedd_core.specs.Ticks.{is_due}
+use Rattle.schedd_state.specs.DueChecks.{is_check_due}
+use Rattle.schedd_state.specs.DueLines.{is_due}
 use Rattle.schedd_plan.specs.declared.plan.JobPlan.{JobPlan}
 use Rattle.startd_core.specs.Startds.{After, StartdValue, after_end, after_mail, after_reboot, after_tick}
 use Rattle.pool_passes.specs.Standing.{LogStands}

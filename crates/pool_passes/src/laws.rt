@@ -18,7 +18,7 @@ ghost use Rattle.pool_passes.specs.Standing.{HasRoll, Stands, end_mark_of, logge
 ghost use Rattle.pool_state.specs.declared.state.PoolState.{PoolState};
 ghost use Rattle.pool_state.specs.Refusals.{IsRefusal};
 ghost use Rattle.pool_tables.specs.DaemonTables.{daemon_state};
-ghost use Rattle.schedd_core.specs.Reopening.{IsReader};
+ghost use Rattle.schedd_state.specs.Reopening.{IsReader};
 
 /// Some function reads the texts of claims.
 pub fn texts_of_claims_are_read()

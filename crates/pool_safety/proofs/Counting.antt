@@ -27,9 +27,9 @@ use Rattle.pool_tables.specs.declared.sent.Sent.{Sent}
 use Rattle.pool_view.specs.declared.run.EndReport.{EndReport}
 use Rattle.queue_tx.specs.Operations.{Operation}
 use Rattle.queue_tx.specs.Queues.{KeyedAds, queue_after}
-use Rattle.schedd_core.specs.Reopening.{IsReader}
+use Rattle.schedd_state.specs.Reopening.{IsReader}
 use Rattle.schedd_core.specs.Rows.{after_mail as schedd_after}
-use Rattle.schedd_core.specs.Schedds.{After as ScheddAfter}
+use Rattle.schedd_state.specs.Schedds.{After as ScheddAfter}
 use Rattle.startd_core.specs.Startds.{After, StartdValue, after_end, after_mail, after_reboot, after_tick}
 use Rattle.pool_moves.specs.Deeds.{ordered_by, posted, receives, schedd_acts, startd_acts}
 use Rattle.pool_moves.specs.Happens.{ComesBack, Happens, Reacts, Receives, Ticks, counts_brought, crashes, is_known}

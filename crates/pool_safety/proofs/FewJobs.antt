@@ -23,7 +23,7 @@ use Rattle.pool_tables.specs.declared.refusal.StepError.TheVariants as error
 use Rattle.pool_tables.specs.declared.sent.Sent.{Sent}
 use Rattle.pool_view.specs.declared.run.EndReport.{EndReport}
 use Rattle.queue_tx.specs.Queues.{KeyedAds}
-use Rattle.schedd_core.specs.Reopening.{IsReader}
+use Rattle.schedd_state.specs.Reopening.{IsReader}
 use Rattle.schedd_plan.specs.declared.plan.JobPlan.{JobPlan}
 use Rattle.startd_core.specs.Startds.{After, StartdValue, after_end, after_mail, after_reboot, after_tick}
 use Rattle.pool_moves.specs.Answers.{pending_by}

@@ -6,7 +6,7 @@ use Rattle.pool_protocol.specs.Protocol.{Protocol}
 use Rattle.pool_protocol.specs.ProtocolMove.{protocol_after_all}
 use Rattle.pool_state.specs.declared.opening.Opening.{Opening}
 use Rattle.pool_state.specs.declared.state.PoolState.{PoolState}
-use Rattle.schedd_core.specs.Reopening.{IsReader}
+use Rattle.schedd_state.specs.Reopening.{IsReader}
 use Rattle.pool_safety.specs.Counted.{IsCounted, brought_count, held_count, sent_count}
 use Rattle.pool_safety.specs.Few.{AreFew}
 use Rattle.pool_safety.specs.Histories.{IsHistory, LeadsTo, Step}

@@ -19,7 +19,7 @@ use Rattle.pool_view.specs.AbstractPool.{IsIn}
 use Rattle.queue_tx.specs.Queues.{KeyedAds}
 use Rattle.receipt_roll.specs.Values.{ReceiptValue}
 use Rattle.queue_tx.specs.Operations.{Operation}
-use Rattle.schedd_core.specs.Reopening.{IsReader}
+use Rattle.schedd_state.specs.Reopening.{IsReader}
 use Rattle.pool_safety.specs.Histories.{IsHistory, Step}
 use Rattle.pool_safety.proofs.HistoryKept.{history_kept}
 

@@ -20,7 +20,7 @@ use Rattle.pool_state.specs.declared.state.PoolState.{PoolState}
 use Rattle.pool_view.specs.AbstractPool.{AbstractPool, IsIn}
 use Rattle.pool_view.specs.AbstractStep.{AbstractStep, Moves, Takes}
 use Rattle.pool_view.specs.Safe.{Safe}
-use Rattle.schedd_core.specs.Reopening.{IsReader}
+use Rattle.schedd_state.specs.Reopening.{IsReader}
 use Rattle.schedd_core.specs.ScheddParts.{IsMarked}
 use Rattle.pool_safety.specs.Histories.{Accepts, IsEvent, IsHistory, IsOrderedIn, LeadsTo, MovesView, OrdersOnly, HasView, Step, latest_in}
 use Rattle.pool_safety.specs.Few.{AreFew}

@@ -19,7 +19,7 @@ use Rattle.pool_state.specs.Refusals.{IsEventRefusal}
 use Rattle.pool_state.specs.declared.opening.Opening.{Opening}
 use Rattle.pool_state.specs.declared.state.PoolState.{PoolState}
 use Rattle.pool_view.specs.AbstractPool.{AbstractPool}
-use Rattle.schedd_core.specs.Reopening.{IsReader}
+use Rattle.schedd_state.specs.Reopening.{IsReader}
 use Rattle.schedd_plan.specs.declared.plan.JobPlan.{JobPlan}
 use Rattle.startd_core.proofs.PermitRows.{end_permits}
 use Rattle.startd_core.specs.Permits.{permit_in}

@@ -32,8 +32,8 @@ use Rattle.pool_view.specs.AbstractPool.{IsIn}
 use Rattle.queue_tx.specs.Queues.{KeyedAds, ad_at}
 use Rattle.queue_tx.specs.declared.key.Key.TheVariants.{Proc}
 use Rattle.schedd_core.specs.Checks.{after_check, after_check_by, policy_plan}
-use Rattle.schedd_core.specs.Reopening.{IsReader}
-use Rattle.schedd_core.specs.Schedds.{ScheddValue, waits_for}
+use Rattle.schedd_state.specs.Reopening.{IsReader}
+use Rattle.schedd_state.specs.Schedds.{ScheddValue, waits_for}
 use Rattle.schedd_plan.specs.declared.plan.JobPlan.{JobPlan}
 use Rattle.schedd_plan.specs.declared.reason.Reason.TheVariants.{ByPolicy}
 use Rattle.schedd_plan.specs.declared.status.JobStatus.{JobStatus}

@@ -34,7 +34,7 @@ use Rattle.queue_tx.specs.declared.kind.JobKind.{JobKind}
 use Rattle.schedd_core.proofs.PlanAds.{run_kind}
 use Rattle.schedd_core.proofs.QueueChanges.{same_proc}
 use Rattle.schedd_core.specs.JobStates.{NamesRun, ShowsJob, ShowsState}
-use Rattle.schedd_core.specs.Reopening.{IsReader, claim_by, claim_in}
+use Rattle.schedd_state.specs.Reopening.{IsReader, claim_by, claim_in}
 use Rattle.schedd_core.specs.ScheddParts.{IsThere}
 use Rattle.schedd_table.specs.JobPlaces.{is_left}
 use Rattle.pool_safety.specs.Kept.{IsKept}

@@ -37,9 +37,9 @@ use Rattle.queue_tx.specs.declared.key.Key.{Key}
 use Rattle.queue_tx.specs.declared.key.Key.TheVariants.{Header, Proc}
 use Rattle.queue_tx.specs.declared.kind.JobKind.{JobKind}
 use Rattle.queue_tx.specs.declared.kind.JobKind.TheVariants as kind
-use Rattle.schedd_core.specs.DueChecks.{IsPassed}
+use Rattle.schedd_state.specs.DueChecks.{IsPassed}
 use Rattle.schedd_core.specs.ScheddParts.{IsMarked, IsOrdered, IsThere}
-use Rattle.schedd_core.specs.Schedds.{IsOpened, ScheddValue}
+use Rattle.schedd_state.specs.Schedds.{IsOpened, ScheddValue}
 use Rattle.schedd_plan.specs.JobAttributes.{status_of}
 use Rattle.schedd_plan.specs.declared.status.JobStatus.{JobStatus}
 use Rattle.schedd_plan.specs.declared.status.JobStatus.TheVariants as status

@@ -5,7 +5,7 @@ use Rattle.std.proofs.lemmas.Bool.{lt-ltb, ltb-true}
 use Rattle.claim_id.specs.declared.numbers.ClaimId.{ClaimId}
 use Rattle.claim_id.specs.Texts.{claim_text, IsClaim}
 use Rattle.claim_id.proofs.OneText.{one_claim}
-use Rattle.schedd_core.specs.Reopening.{IsReader}
+use Rattle.schedd_state.specs.Reopening.{IsReader}
 
 -- ---- the first that a search below a number finds
 abbrev or_else : {A : Type 0} → Option A → Option A → Option A

@@ -20,8 +20,8 @@ use Rattle.queue_tx.specs.Operations.{Operation}
 use Rattle.queue_tx.specs.Queues.{KeyedAds, queue_after}
 use Rattle.receipt_roll.specs.Values.{ReceiptValue}
 use Rattle.schedd_core.specs.Logging.{IsReopened}
-use Rattle.schedd_core.specs.Reopening.{IsReader}
-use Rattle.schedd_core.specs.Schedds.{ScheddValue}
+use Rattle.schedd_state.specs.Reopening.{IsReader}
+use Rattle.schedd_state.specs.Schedds.{ScheddValue}
 use Rattle.schedd_core.proofs.Marks.{reopened_passed}
 use Rattle.pool_links.specs.Linked.{Awaits, AwaitsJobs, AwaitsPlan, StayLinked}
 use Rattle.pool_links.specs.PoolParts.{Awaited}

@@ -27,7 +27,7 @@ use Rattle.schedd_core.specs.Logging.{IsReopened, after_plan, reopened}
 use Rattle.schedd_core.specs.PlanChanges.{moves_of_order, pends}
 use Rattle.schedd_core.specs.Rows.{after_mail}
 use Rattle.schedd_core.specs.ScheddParts.{Fits}
-use Rattle.schedd_core.specs.Schedds.{After, ScheddValue}
+use Rattle.schedd_state.specs.Schedds.{After, ScheddValue}
 use Rattle.schedd_core.proofs.LostPlans.{check_as, mail_as, tick_as}
 use Rattle.schedd_core.proofs.Marks.{going_passed, moved_passed}
 use Rattle.schedd_plan.specs.declared.plan.JobPlan.{JobPlan}

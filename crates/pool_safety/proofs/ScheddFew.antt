@@ -36,7 +36,7 @@ use Rattle.queue_tx.specs.Kinds.{kind_of}
 use Rattle.queue_tx.specs.Operations.{Operation}
 use Rattle.queue_tx.specs.Queues.{KeyedAds, ad_at, queue_after}
 use Rattle.queue_tx.proofs.Transactions.{same_keys}
-use Rattle.schedd_core.specs.Reopening.{IsReader}
+use Rattle.schedd_state.specs.Reopening.{IsReader}
 use Rattle.schedd_core.specs.ScheddParts.{IsThere}
 use Rattle.schedd_core.proofs.PlanJobs.{ad_elsewhere, plan_there}
 use Rattle.schedd_plan.specs.declared.plan.JobPlan.{JobPlan}

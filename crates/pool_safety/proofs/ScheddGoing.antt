@@ -11,13 +11,12 @@ use Rattle.pool_outer.specs.declared.gate.Daemon.TheVariants.{Schedd}
 use Rattle.pool_state.specs.Refusals.{Refusal, check_refusal, first_of, jobs_refusal, receive_refusal, schedd_refusal, submit_refusal, tick_refusal, unless_due}
 use Rattle.pool_tables.specs.DaemonTables.{daemon_refusal}
 use Rattle.pool_tables.specs.MailLists.{mail_refusal, with_received}
-use Rattle.schedd_core.specs.Checks.{is_check_due}
-use Rattle.schedd_core.specs.Ticks.{is_due}
+use Rattle.schedd_state.specs.DueChecks.{is_check_due, IsPassed}
+use Rattle.schedd_state.specs.DueLines.{is_due}
 use Rattle.pool_view.specs.AbstractPool.{IsIn, SameMembers}
 use Rattle.pool_view.specs.AbstractStep.{AbstractStep, Time}
-use Rattle.schedd_core.specs.declared.answer.ScheddStep.{ScheddStep}
-use Rattle.schedd_core.specs.DueChecks.{IsPassed}
-use Rattle.schedd_core.specs.Schedds.{ScheddValue}
+use Rattle.schedd_state.specs.declared.answer.ScheddStep.{ScheddStep}
+use Rattle.schedd_state.specs.Schedds.{ScheddValue}
 use Rattle.schedd_plan.specs.declared.plan.JobPlan.{JobPlan}
 use Rattle.pool_links.specs.Linked.{Awaits, StayLinked}
 use Rattle.pool_links.specs.PoolParts.{Awaited, PoolParts}

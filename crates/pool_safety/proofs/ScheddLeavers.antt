@@ -26,7 +26,7 @@ use Rattle.queue_tx.specs.Queues.{KeyedAds, ad_at}
 use Rattle.schedd_core.specs.JobStates.{NamesRun}
 use Rattle.schedd_core.specs.Logging.{numbered}
 use Rattle.schedd_core.specs.PlanChanges.{how_of}
-use Rattle.schedd_core.specs.Reopening.{IsReader, claim_by}
+use Rattle.schedd_state.specs.Reopening.{IsReader, claim_by}
 use Rattle.schedd_core.proofs.QueueChanges.{same_proc}
 use Rattle.schedd_plan.specs.declared.plan.Completion.{Completion}
 use Rattle.schedd_plan.specs.declared.plan.JobPlan.{JobPlan}

@@ -26,7 +26,7 @@ use Rattle.queue_tx.specs.Queues.{KeyedAds, queue_after}
 use Rattle.receipt_roll.specs.Values.{ReceiptValue}
 use Rattle.schedd_core.specs.Logging.{after_logged, mails_of_plan}
 use Rattle.schedd_core.specs.PlanChanges.{moves_of_logged}
-use Rattle.schedd_core.specs.Reopening.{IsReader}
+use Rattle.schedd_state.specs.Reopening.{IsReader}
 use Rattle.schedd_core.proofs.Marks.{logged_passed, new_passed}
 use Rattle.schedd_plan.specs.declared.plan.JobPlan.{JobPlan}
 use Rattle.schedd_plan.specs.Plans.{plan_ops}

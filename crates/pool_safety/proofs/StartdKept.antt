@@ -9,7 +9,7 @@ use Rattle.pool_tables.specs.declared.states.DaemonState.{DaemonState}
 use Rattle.pool_view.specs.AbstractPool.{IsIn, SameMembers}
 use Rattle.pool_view.specs.declared.run.EndReport.{EndReport}
 use Rattle.pool_view.specs.AbstractStep.{AbstractStep}
-use Rattle.schedd_core.specs.DueChecks.{IsPassed}
+use Rattle.schedd_state.specs.DueChecks.{IsPassed}
 use Rattle.startd_core.specs.declared.answer.StartdStep.{StartdStep}
 use Rattle.startd_core.specs.Startds.{After, StartdValue}
 use Rattle.pool_links.specs.Linked.{StayLinked}

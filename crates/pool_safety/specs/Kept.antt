@@ -14,7 +14,7 @@ use Rattle.pool_tables.specs.declared.sent.Sent.{Sent}
 use Rattle.pool_view.specs.AbstractPool.{IsIn}
 use Rattle.pool_view.specs.AbstractStep.{AbstractStep}
 use Rattle.queue_tx.specs.Operations.{Operation}
-use Rattle.schedd_core.specs.DueChecks.{IsPassed}
+use Rattle.schedd_state.specs.DueChecks.{IsPassed}
 use Rattle.schedd_plan.specs.Plans.{plan_ops}
 use Rattle.startd_core.specs.Startds.{StartdValue}
 use Rattle.pool_links.specs.Linked.{IsLinked}

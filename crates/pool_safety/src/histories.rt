@@ -29,7 +29,7 @@ ghost use Rattle.pool_view.specs.declared.job.State.TheVariants.{Done};
 ghost use Rattle.pool_view.specs.declared.view.View.{View};
 ghost use Rattle.queue_tx.specs.Operations.{Operation};
 ghost use Rattle.receipt_roll.specs.Values.{ReceiptValue};
-ghost use Rattle.schedd_core.specs.Reopening.{IsReader};
+ghost use Rattle.schedd_state.specs.Reopening.{IsReader};
 ghost use Rattle.schedd_core.specs.ScheddParts.{IsMarked, IsThere};
 ghost use Rattle.startd_core.specs.declared.answer.Permit.{Permit};
 ghost use Rattle.pool_safety.specs.Histories.{IsEvent, IsHistory, IsOrderedIn, LeadsTo, OfHistories, OrdersOnly, HasView, Step, latest_in};

@@ -27,7 +27,7 @@ ghost use Rattle.pool_view.specs.Views.{pool_of};
 ghost use Rattle.pool_view.specs.declared.view.View.{View};
 ghost use Rattle.queue_tx.specs.Operations.{Operation};
 ghost use Rattle.receipt_roll.specs.Values.{ReceiptValue};
-ghost use Rattle.schedd_core.specs.Reopening.{IsReader};
+ghost use Rattle.schedd_state.specs.Reopening.{IsReader};
 ghost use Rattle.schedd_core.specs.ScheddParts.{IsOrdered};
 ghost use Rattle.pool_safety.specs.Few.{AreFew};
 ghost use Rattle.pool_safety.specs.Histories.{Accepts, LaunchesRun, MovesView};

@@ -19,7 +19,7 @@ ghost use Rattle.pool_state.specs.declared.opening.Opening.{Opening};
 ghost use Rattle.pool_state.specs.declared.state.PoolState.{PoolState};
 ghost use Rattle.queue_tx.specs.Operations.{Operation};
 ghost use Rattle.receipt_roll.specs.Values.{ReceiptValue};
-ghost use Rattle.schedd_core.specs.Reopening.{IsReader};
+ghost use Rattle.schedd_state.specs.Reopening.{IsReader};
 ghost use Rattle.pool_safety.specs.Few.{AreFew};
 ghost use Rattle.pool_safety.specs.Kept.{GoesOn, IsKept, at_reading};
 ghost use Rattle.pool_safety.specs.Steps.{IsStepOf};

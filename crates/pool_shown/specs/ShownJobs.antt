@@ -16,7 +16,7 @@ use Rattle.queue_tx.specs.declared.kind.JobKind.{JobKind}
 use Rattle.queue_tx.specs.declared.kind.JobKind.TheVariants as kind
 use Rattle.queue_tx.specs.Kinds.{kind_of}
 use Rattle.queue_tx.specs.Queues.{KeyedAds, ad_at}
-use Rattle.schedd_core.specs.Reopening.{claim_in}
+use Rattle.schedd_state.specs.Reopening.{claim_in}
 use Rattle.schedd_plan.specs.JobAttributes.{lease_until, run_number}
 use Rattle.schedd_table.specs.JobPlaces.{is_left}
 

@@ -2,7 +2,7 @@
 
 ghost use Rattle.std.specs.Prelude.{◌≡◌, ℕ, ◌++◌, filter_map, IfOk, List, Option};
 ghost use Rattle.claim_id.specs.declared.numbers.ClaimId.{ClaimId};
-ghost use Rattle.schedd_core.specs.Reopening.{IsReader};
+ghost use Rattle.schedd_state.specs.Reopening.{IsReader};
 ghost use Rattle.pool_shown.specs.ShownJobs.{AreShown, entry_by, one_entry, shown_entry, shown_state};
 
 use crate::cores::core_ad;

@@ -3,7 +3,7 @@
 ghost use Rattle.std.specs.Prelude.{◌≡◌, ℕ, List, Option};
 ghost use Rattle.ad_tree.specs.Tree.{tree};
 ghost use Rattle.claim_id.specs.declared.numbers.ClaimId.{ClaimId};
-ghost use Rattle.schedd_core.specs.Reopening.{IsReader, claim_in, claim_in_tree};
+ghost use Rattle.schedd_state.specs.Reopening.{IsReader, claim_in, claim_in_tree};
 ghost use Rattle.pool_shown.specs.ShownJobs.{run_in, shown_state, under_state};
 
 use ad_names::pool::RUN_CLAIM;

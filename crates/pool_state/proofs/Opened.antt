@@ -10,7 +10,7 @@ use Rattle.pool_state.specs.declared.state.PoolState.{PoolState}
 use Rattle.pool_state.specs.Openings.{AreListed, AreRemoved, CanOpen, HasNoMails, IsJoined, IsOpenedBy, opening_startds, startds_of}
 use Rattle.pool_tables.specs.DaemonTables.{first_daemons}
 use Rattle.pool_tables.specs.OrderTables.{not_given}
-use Rattle.schedd_core.specs.Schedds.{IsOpened}
+use Rattle.schedd_state.specs.Schedds.{IsOpened}
 use Rattle.startd_core.specs.Startds.{StartdValue}
 
 -- what was made of an opening

@@ -22,7 +22,7 @@ use Rattle.queue_tx.specs.declared.key.Key.TheVariants.{Proc}
 use Rattle.queue_tx.specs.declared.kind.JobKind.TheVariants.{Idle, Held, Under}
 use Rattle.queue_tx.specs.Queues.{KeyedAds, ad_at}
 use Rattle.receipt_roll.specs.declared.roll.TheConstants.{MAX_ITEMS}
-use Rattle.schedd_core.specs.Schedds.{IsOpened}
+use Rattle.schedd_state.specs.Schedds.{IsOpened}
 use Rattle.schedd_plan.specs.declared.status.JobStatus.{JobStatus}
 use Rattle.schedd_plan.specs.declared.status.JobStatus.TheVariants.{Removed}
 use Rattle.schedd_plan.specs.JobAttributes.{status_of}

@@ -11,7 +11,7 @@ use Rattle.pool_tables.specs.DaemonTables.{is_up, daemon_state}
 use Rattle.queue_tx.specs.declared.key.Key.TheVariants.{Proc}
 use Rattle.queue_tx.specs.Kinds.{kind_of}
 use Rattle.queue_tx.specs.Queues.{ad_at}
-use Rattle.schedd_core.specs.Schedds.{engages_job}
+use Rattle.schedd_state.specs.Schedds.{engages_job}
 use Rattle.startd_slot.specs.declared.slot.Slot.{Slot}
 use Rattle.startd_slot.specs.SlotStates.{offers_claim}
 

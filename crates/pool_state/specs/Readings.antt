@@ -15,9 +15,9 @@ use Rattle.pool_tables.specs.declared.states.DaemonState.{DaemonState}
 use Rattle.pool_tables.specs.DaemonTables.{is_up, daemon_state}
 use Rattle.queue_tx.specs.declared.kind.JobKind.TheVariants.{Idle}
 use Rattle.queue_tx.specs.Queues.{KeyedAds}
-use Rattle.schedd_core.specs.Schedds.{ScheddValue}
-use Rattle.schedd_core.specs.Checks.{is_check_due}
-use Rattle.schedd_core.specs.Ticks.{is_due}
+use Rattle.schedd_state.specs.Schedds.{ScheddValue}
+use Rattle.schedd_state.specs.DueChecks.{is_check_due}
+use Rattle.schedd_state.specs.DueLines.{is_due}
 use Rattle.startd_core.specs.DueTicks.{hangs_on_start}
 use Rattle.startd_core.specs.Startds.{StartdValue}
 use Rattle.startd_slot.specs.declared.slot.Slot.{Slot}

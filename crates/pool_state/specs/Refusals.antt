@@ -31,8 +31,8 @@ use Rattle.pool_tables.specs.declared.sent.Sent.{Sent}
 use Rattle.queue_tx.specs.declared.kind.JobKind.TheVariants.{Idle, Under}
 use Rattle.queue_tx.specs.Operations.{Operation}
 use Rattle.receipt_roll.specs.Values.{ReceiptValue}
-use Rattle.schedd_core.specs.Checks.{is_check_due}
-use Rattle.schedd_core.specs.Ticks.{is_due}
+use Rattle.schedd_state.specs.DueChecks.{is_check_due}
+use Rattle.schedd_state.specs.DueLines.{is_due}
 use Rattle.startd_core.specs.DueTicks as startd
 use Rattle.startd_core.specs.Startds.{StartdValue}
 

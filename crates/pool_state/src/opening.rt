@@ -4,7 +4,7 @@ ghost use Rattle.std.specs.Prelude.{◌≡◌, ◌<◌, ◌++◌, ◌∷◌, [],
 ghost use Rattle.pool_mail.specs.declared.slot_ad.SlotAd.{SlotAd};
 ghost use Rattle.pool_tables.specs.DaemonTables.{first_daemons};
 ghost use Rattle.pool_tables.specs.OrderTables.{not_given};
-ghost use Rattle.schedd_core.specs.Schedds.{IsOpened};
+ghost use Rattle.schedd_state.specs.Schedds.{IsOpened};
 ghost use Rattle.startd_core.specs.Startds.{with_slot};
 ghost use Rattle.pool_state.specs.Openings.{AreListed, AreRemoved, CanOpen, HasNoMails, IsJobCount, IsJoined, IsOpenedBy, is_next_slot, is_removed, is_removed_at, machines_of, new_startd, startds_from, startds_of};
 
@@ -20,8 +20,8 @@ use pool_past::Finished;
 use pool_tables::{Daemons, Mails, Orders};
 use queue_tx::{JobKind, Key, Queue, Tx};
 use receipt_roll::Mark;
-use schedd_core::Schedd;
 use schedd_plan::{JobStatus, status_of};
+use schedd_state::Schedd;
 use startd_core::Startd;
 use std::alloc::Global;
 use std::collections::LinkedList;

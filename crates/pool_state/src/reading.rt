@@ -9,7 +9,7 @@ ghost use Rattle.pool_state.specs.Refusals.{is_startd_due};
 ghost use Rattle.pool_tables.specs.declared.refusal.MailError.TheVariants as error;
 ghost use Rattle.pool_tables.specs.DaemonTables.{daemon_state};
 ghost use Rattle.pool_tables.specs.MailLists.{IsMailTo, IsNextMail, IsOfPool, mail_error};
-ghost use Rattle.schedd_core.specs.DueChecks.{IsFirstDue, IsPassed};
+ghost use Rattle.schedd_state.specs.DueChecks.{IsFirstDue, IsPassed};
 
 use crate::state::PoolState;
 use ad_tree::Ad;

@@ -10,7 +10,7 @@ use pool_tables::{Daemons, Mails, Orders};
 use pool_view::EndReport;
 use queue_tx::{Queue, Tx};
 use receipt_roll::Mark;
-use schedd_core::Schedd;
+use schedd_state::Schedd;
 use std::alloc::Global;
 use std::collections::LinkedList;
 

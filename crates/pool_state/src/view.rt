@@ -2,7 +2,7 @@
 
 ghost use Rattle.std.specs.Prelude.{◌≡◌, ℕ, IfOk, List, Option};
 ghost use Rattle.claim_id.specs.declared.numbers.ClaimId.{ClaimId};
-ghost use Rattle.schedd_core.specs.Reopening.{IsReader};
+ghost use Rattle.schedd_state.specs.Reopening.{IsReader};
 ghost use Rattle.pool_state.specs.PoolViews.{IsViewOf};
 
 use crate::state::PoolState;

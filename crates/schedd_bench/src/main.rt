@@ -17,7 +17,7 @@ use crate::schedds::{
 };
 use anyhow::{Context, Result};
 use queue_tx::Queue;
-use schedd_core::Schedd;
+use schedd_state::Schedd;
 use std::env;
 use std::time::Instant;
 

@@ -2,8 +2,9 @@ use ad_value::Memory;
 use claim_id::{ClaimId, ClaimNo, JobId, RunNo, SlotId};
 use pool_mail::{Mail, Match, Settings};
 use queue_tx::Queue;
-use schedd_core::Schedd;
+use schedd_core::{check, logged, receive, reopen, tick};
 use schedd_plan::JobPlan;
+use schedd_state::Schedd;
 use std::alloc::Global;
 
 /// When the schedd came back.
@@ -29,18 +30,23 @@ const SETTINGS: Settings = Settings {
 /// claim that came since have their runs, whose leases were lengthened.
 pub(crate) fn back_again(alloc: Global, before: &Queue, queue: &Queue) -> Result<Schedd, Memory> {
     let mut schedd = Schedd::new(alloc, before, SETTINGS)?;
-    let _nothing = schedd.reopen(alloc, queue, BACK)?;
+    let _nothing = reopen(&mut schedd, alloc, queue, BACK)?;
     for _ in schedd.left().len()..8 {
-        tick(alloc, &mut schedd, queue, BACK)?;
+        tick_and_log(alloc, &mut schedd, queue, BACK)?;
     }
     Ok(schedd)
 }
 
 // A tick whose plan is logged; whether there was one.
-fn tick(alloc: Global, schedd: &mut Schedd, queue: &Queue, reading: u64) -> Result<bool, Memory> {
-    let step = schedd.tick(alloc, queue, reading)?;
+fn tick_and_log(
+    alloc: Global,
+    schedd: &mut Schedd,
+    queue: &Queue,
+    reading: u64,
+) -> Result<bool, Memory> {
+    let step = tick(schedd, alloc, queue, reading)?;
     let planned = step.plan.is_some();
-    let _mails = schedd.logged(alloc, queue)?;
+    let _mails = logged(schedd, alloc, queue)?;
     Ok(planned)
 }
 
@@ -79,8 +85,8 @@ pub(crate) fn look_at_all(
         let Some(job) = schedd.first_check(queue, reading) else {
             return Ok(looks);
         };
-        let _step = schedd.check(alloc, queue, job, reading)?;
-        let _mails = schedd.logged(alloc, queue)?;
+        let _step = check(schedd, alloc, queue, job, reading)?;
+        let _mails = logged(schedd, alloc, queue)?;
         schedd.move_mark(queue);
         looks = looks.saturating_add(1);
     }
@@ -98,7 +104,7 @@ pub(crate) fn tick_often(
     let mut reading = BACK;
     for _ in 0..times {
         reading = reading.saturating_add(STEP);
-        if tick(alloc, schedd, queue, reading)? {
+        if tick_and_log(alloc, schedd, queue, reading)? {
             planned = planned.saturating_add(1);
         }
     }
@@ -129,12 +135,12 @@ pub(crate) fn give_claim(alloc: Global, schedd: &mut Schedd, lone: &Queue) -> Re
         claim: CLAIM,
         by_priority: false,
     });
-    let _ask = schedd.receive(alloc, lone, &matched, BACK)?;
+    let _ask = receive(schedd, alloc, lone, &matched, BACK)?;
     let granted = Mail::Granted {
         claim: CLAIM,
         job: LONE,
     };
-    let _nothing = schedd.receive(alloc, lone, &granted, BACK)?;
+    let _nothing = receive(schedd, alloc, lone, &granted, BACK)?;
     Ok(())
 }
 
@@ -144,7 +150,7 @@ pub(crate) fn seek(
     schedd: &mut Schedd,
     queue: &Queue,
 ) -> Result<Option<u64>, Memory> {
-    let step = schedd.tick(alloc, queue, BACK)?;
+    let step = tick(schedd, alloc, queue, BACK)?;
     match step.plan {
         Some(JobPlan::Grant { number, .. }) => Ok(Some(number)),
         _ => Ok(None),
@@ -165,7 +171,7 @@ pub(crate) fn end_claim(
         },
         kept: false,
     };
-    let _plan = schedd.receive(alloc, queue, &gone, BACK)?;
-    let _nothing = schedd.logged(alloc, queue)?;
+    let _plan = receive(schedd, alloc, queue, &gone, BACK)?;
+    let _nothing = logged(schedd, alloc, queue)?;
     Ok(())
 }

@@ -22,10 +22,10 @@ use Rattle.schedd_table.specs.declared.runs.KeptRun.{KeptRun}
 use Rattle.schedd_table.specs.JobPlaces.{is_left}
 use Rattle.schedd_core.specs.JobStates.{NamesRun}
 use Rattle.schedd_core.specs.Logging.{reopened, IsReopened}
-use Rattle.schedd_core.specs.Reopening.{IsReader, claim_by, claim_in, run_named, run_by, found_run, one_run, found_behind, found_runs, one_claim, claims_behind, found_claims, under_by, is_under_at, still_left}
+use Rattle.schedd_state.specs.Reopening.{IsReader, claim_by, claim_in, run_named, run_by, found_run, one_run, found_behind, found_runs, one_claim, claims_behind, found_claims, under_by, is_under_at, still_left}
 use Rattle.schedd_core.specs.ScheddParts.{IsUnderRun, AreOfDifferentJobs, FitsWith, Fits}
-use Rattle.schedd_core.specs.Schedds.{ScheddValue}
-use Rattle.schedd_core.specs.Searches.{AreUnder}
+use Rattle.schedd_state.specs.Schedds.{ScheddValue}
+use Rattle.schedd_state.specs.Searches.{AreUnder}
 use Rattle.schedd_core.proofs.OpenFits.{listed, of_list, job_under}
 use Rattle.schedd_core.proofs.PlanMay.{in_left, left_in}
 

@@ -3,7 +3,7 @@ use Rattle.std.proofs.Common.{ℕ}
 use Rattle.queue_tx.specs.Queues.{KeyedAds}
 use Rattle.schedd_core.specs.Logging.{reopened, IsReopened}
 use Rattle.schedd_core.specs.ScheddParts.{Fits}
-use Rattle.schedd_core.specs.Schedds.{ScheddValue, crashed}
+use Rattle.schedd_state.specs.Schedds.{ScheddValue, crashed}
 
 pub crash_fits : (q : KeyedAds) (v : ScheddValue) → Fits q v → Fits q (crashed v)
 crash_fits q v fit = record {

@@ -46,14 +46,16 @@ use Rattle.schedd_table.specs.KeptRuns.{place_of_run, place_for, with_run, runs_
 use Rattle.schedd_table.specs.MailTable.{is_idle_place, granted_at, granted_row, is_spent_why, denied_claim, denied_row, order_row, fate_of_gone, is_leaving_in, fate_in, after_fate}
 use Rattle.schedd_table.specs.OrderTable.{remove_plan, hold_plan, resume_plan, resume_marked, can_be_held, is_waiting}
 use Rattle.schedd_table.specs.TickTable.{lease_end}
-use Rattle.schedd_core.specs.declared.answer.ScheddStep.{ScheddStep}
+use Rattle.schedd_state.specs.declared.answer.ScheddStep.{ScheddStep}
 use Rattle.schedd_core.specs.Checks.{policy_plan, after_check_by, after_check, with_look}
 use Rattle.schedd_core.specs.Logging.{after_plan}
-use Rattle.schedd_core.specs.Reopening.{is_under_kind, under_by, is_under_at}
+use Rattle.schedd_state.specs.Reopening.{is_under_kind, under_by, is_under_at}
 use Rattle.schedd_core.specs.Rows.{stage_known, run_at, known_job, seen_at, gone_at, gone_row, ended_at, ended_with, ended_row, mail_row, noted_in, noted, asked_in, after_row, after_mail}
 use Rattle.schedd_core.specs.ScheddParts.{IsUnderRun, FitsWith, Fits, IsThere, IsFitting, FitsOn, IsOfClaim}
-use Rattle.schedd_core.specs.Schedds.{ScheddValue, After, waits_for}
-use Rattle.schedd_core.specs.Ticks.{tick_line, IsSought, left_at, left_claims, after_past, later, lengthened_by, after_lengthen, run_granted, granted_by, after_grant, after_give_up, after_line, IsTicked}
+use Rattle.schedd_state.specs.Schedds.{ScheddValue, After, waits_for}
+use Rattle.schedd_state.specs.DueLines.{tick_line}
+use Rattle.schedd_core.specs.Ticks.{IsSought, after_past, later, lengthened_by, after_lengthen, run_granted, granted_by, after_grant, after_give_up, after_line, IsTicked}
+use Rattle.schedd_state.specs.Leaving.{left_at, left_claims}
 use Rattle.schedd_core.proofs.FitsAfter.{Frees, Keeps, SameRun, fits_logged, fits_freed, fits_kept, fits_granted, run_is_under, run_not_left, under_apart}
 use Rattle.schedd_core.proofs.Freed.{let_go_frees, let_go_fits, end_frees, freed_fits}
 use Rattle.schedd_core.proofs.Lines.{LineTold, line_told, IdleAd, idle_at, sought_idle}

@@ -48,13 +48,14 @@ use Rattle.schedd_table.specs.MailTable.{is_idle_place, granted_at, granted_row,
 use Rattle.schedd_table.specs.OrderTable.{remove_plan, hold_plan, resume_plan, resume_marked, can_be_held, is_waiting}
 use Rattle.schedd_table.specs.TickTable.{is_past, lease_end}
 use Rattle.schedd_core.specs.Checks.{policy_plan, after_check_by, after_check, with_look}
-use Rattle.schedd_core.specs.declared.answer.ScheddStep.{ScheddStep}
+use Rattle.schedd_state.specs.declared.answer.ScheddStep.{ScheddStep}
 use Rattle.schedd_core.specs.JobStates.{ShowsState}
 use Rattle.schedd_core.specs.PlanChanges.{change_at, change_by, pends, order_moves, moves_of_order, moves_of_mail}
 use Rattle.schedd_core.specs.Rows.{stage_known, run_at, known_job, seen_at, seen_row, gone_at, gone_row, ended_at, ended_with, ended_row, mail_row, asked_in, after_row}
 use Rattle.schedd_core.specs.ScheddParts.{IsPart, Fits, IsHeard}
-use Rattle.schedd_core.specs.Schedds.{ScheddValue, waits_for}
-use Rattle.schedd_core.specs.Ticks.{tick_line, IsSought, later, lengthened_by, after_lengthen, granted_by, after_grant, after_past, after_give_up, after_line, IsTicked}
+use Rattle.schedd_state.specs.Schedds.{ScheddValue, waits_for}
+use Rattle.schedd_state.specs.DueLines.{tick_line}
+use Rattle.schedd_core.specs.Ticks.{IsSought, later, lengthened_by, after_lengthen, granted_by, after_grant, after_past, after_give_up, after_line, IsTicked}
 use Rattle.schedd_core.proofs.FitsAfter.{Frees, freed_job}
 use Rattle.schedd_core.proofs.Freed.{let_go_frees, end_frees}
 use Rattle.schedd_core.proofs.PlanAds.{run_kind}

@@ -21,10 +21,11 @@ use Rattle.schedd_table.specs.declared.claims.KeptClaim.{KeptClaim}
 use Rattle.schedd_table.specs.declared.runs.KeptRun.{KeptRun}
 use Rattle.schedd_table.specs.JobPlaces.{is_left}
 use Rattle.schedd_core.specs.JobStates.{NamesRun}
-use Rattle.schedd_core.specs.Logging.{taken_off, after_plan}
-use Rattle.schedd_core.specs.Reopening.{is_under_kind, under_by, is_under_at}
+use Rattle.schedd_state.specs.Leaving.{taken_off}
+use Rattle.schedd_core.specs.Logging.{after_plan}
+use Rattle.schedd_state.specs.Reopening.{is_under_kind, under_by, is_under_at}
 use Rattle.schedd_core.specs.ScheddParts.{IsUnderRun, AreOfDifferentJobs, FitsWith, Fits, IsThere, IsFitting}
-use Rattle.schedd_core.specs.Schedds.{ScheddValue}
+use Rattle.schedd_state.specs.Schedds.{ScheddValue}
 use Rattle.schedd_core.proofs.PlanAds.{with_status, marked_held, lengthened, granted, has_claim, under_kind, run_kind, idle_kind, held_kind, run_status, run_marked, run_lengthened, run_granted, claim_status, claim_marked, claim_lengthened}
 use Rattle.schedd_core.proofs.PlanJobs.{plan_ad, ad_of_plan, ad_elsewhere, left_after, left_apart, UnderAd, under_ad}
 use Rattle.schedd_core.proofs.QueueChanges.{ordered_after}

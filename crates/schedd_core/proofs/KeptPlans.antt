@@ -19,10 +19,11 @@ use Rattle.schedd_plan.specs.declared.plan.JobPlan.TheVariants as plan
 use Rattle.schedd_plan.specs.Plans.{job_of, plan_ops}
 use Rattle.schedd_table.specs.JobPlaces.{is_left}
 use Rattle.schedd_core.specs.JobStates.{ShowsState, ShowsJob, ShowsJobs}
-use Rattle.schedd_core.specs.Logging.{taken_off, after_plan, reopened, IsReopened}
-use Rattle.schedd_core.specs.Reopening.{IsReader, next_after, is_under_kind, under_by, is_under_at, still_left, found_runs, found_claims}
+use Rattle.schedd_state.specs.Leaving.{taken_off}
+use Rattle.schedd_core.specs.Logging.{after_plan, reopened, IsReopened}
+use Rattle.schedd_state.specs.Reopening.{IsReader, next_after, is_under_kind, under_by, is_under_at, still_left, found_runs, found_claims}
 use Rattle.schedd_core.specs.ScheddParts.{IsPart, IsOrdered, IsFitting}
-use Rattle.schedd_core.specs.Schedds.{ScheddValue}
+use Rattle.schedd_state.specs.Schedds.{ScheddValue}
 use Rattle.schedd_core.proofs.FitsAfter.{Frees, freed_kind, ad_by}
 use Rattle.schedd_core.proofs.PlanAds.{run_kind, run_granted, granted}
 use Rattle.schedd_core.proofs.PlanJobs.{plan_ad, ad_of_plan, plan_there}

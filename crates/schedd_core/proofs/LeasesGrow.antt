@@ -40,14 +40,15 @@ use Rattle.schedd_table.specs.KeptRuns.{place_of_run}
 use Rattle.schedd_table.specs.MailTable.{is_idle_place, granted_row, denied_row, order_row}
 use Rattle.schedd_table.specs.OrderTable.{remove_plan, hold_plan, resume_plan, resume_marked, can_be_held, is_waiting}
 use Rattle.schedd_table.specs.TickTable.{lease_end}
-use Rattle.schedd_core.specs.declared.answer.ScheddStep.{ScheddStep}
+use Rattle.schedd_state.specs.declared.answer.ScheddStep.{ScheddStep}
 use Rattle.schedd_core.specs.Checks.{policy_plan, after_check_by, after_check, with_look}
 use Rattle.schedd_core.specs.JobStates.{NamesRun}
-use Rattle.schedd_core.specs.Reopening.{is_under_at, under_by, is_under_kind}
+use Rattle.schedd_state.specs.Reopening.{is_under_at, under_by, is_under_kind}
 use Rattle.schedd_core.specs.Rows.{stage_known, run_at, known_job, seen_row, gone_at, gone_row, ended_at, ended_with, ended_row, mail_row, after_row, after_mail}
 use Rattle.schedd_core.specs.ScheddParts.{IsOrdered, Fits, IsRunIn, LeasesGrow}
-use Rattle.schedd_core.specs.Schedds.{ScheddValue, waits_for}
-use Rattle.schedd_core.specs.Ticks.{tick_line, IsSought, later, after_past, lengthened_by, after_lengthen, granted_by, after_grant, after_give_up, after_line, IsTicked}
+use Rattle.schedd_state.specs.Schedds.{ScheddValue, waits_for}
+use Rattle.schedd_state.specs.DueLines.{tick_line}
+use Rattle.schedd_core.specs.Ticks.{IsSought, later, after_past, lengthened_by, after_lengthen, granted_by, after_grant, after_give_up, after_line, IsTicked}
 use Rattle.schedd_core.proofs.EventMay.{plan_of_row, row_plans, granted_quiet, denied_quiet, matched_quiet, seen_quiet}
 use Rattle.schedd_core.proofs.FitsAfter.{Frees}
 use Rattle.schedd_core.proofs.Freed.{let_go_frees, end_frees}

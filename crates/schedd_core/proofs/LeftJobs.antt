@@ -11,9 +11,9 @@ use Rattle.schedd_table.specs.declared.claims.KeptClaim.{KeptClaim}
 use Rattle.schedd_table.specs.declared.runs.KeptRun.{KeptRun}
 use Rattle.schedd_table.specs.JobPlaces.{is_left}
 use Rattle.schedd_core.specs.Logging.{run_of_job, reopened, IsReopened}
-use Rattle.schedd_core.specs.Reopening.{IsReader, one_claim, claims_behind, found_claims, found_runs, still_left}
+use Rattle.schedd_state.specs.Reopening.{IsReader, one_claim, claims_behind, found_claims, found_runs, still_left}
 use Rattle.schedd_core.specs.ScheddParts.{Fits}
-use Rattle.schedd_core.specs.Schedds.{ScheddValue}
+use Rattle.schedd_state.specs.Schedds.{ScheddValue}
 use Rattle.schedd_core.proofs.BackFits.{in_both, reopened_fits}
 use Rattle.schedd_core.proofs.FitsAfter.{run_not_left}
 use Rattle.schedd_core.proofs.LoggedMails.{run_found}

@@ -1,6 +1,3 @@
-pub mod Free
-pub mod Listing
-pub mod Readers
 pub mod Places
 pub mod AdChanges
 pub mod QueueChanges
@@ -20,10 +17,5 @@ pub mod OpenFits
 pub mod BackFits
 pub mod KeptPlans
 pub mod LeftJobs
-pub mod LooksKept
-pub mod Fresh
-pub mod Passing
-pub mod Oldest
-pub mod DueFirst
 pub mod Marks
 pub mod Crashes

@@ -27,7 +27,7 @@ use Rattle.schedd_core.specs.JobStates.{NamesRun}
 use Rattle.schedd_core.specs.Logging.{run_in, run_at_place, run_of_job, stops, is_marked, is_stopped_by, is_stopped, alives, activates, numbered, mails_of_plan, after_plan}
 use Rattle.schedd_core.specs.PlanChanges.{change_of, lease_moves, told_leases, moves_of_logged}
 use Rattle.schedd_core.specs.ScheddParts.{IsPart, IsOrdered, Fits, IsUnderRun, IsFitting, IsRunIn, IsGrantOf, IsAllowed, IsLeased}
-use Rattle.schedd_core.specs.Schedds.{ScheddValue}
+use Rattle.schedd_state.specs.Schedds.{ScheddValue}
 use Rattle.schedd_core.proofs.FitsAfter.{ad_by}
 use Rattle.schedd_core.proofs.LoggedMay.{left_is, runs_are, part_committed}
 use Rattle.schedd_core.proofs.Places.{in_at, passes_at}

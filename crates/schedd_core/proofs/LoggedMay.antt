@@ -27,7 +27,7 @@ use Rattle.schedd_core.specs.JobStates.{ShowsJobs}
 use Rattle.schedd_core.specs.Logging.{after_plan}
 use Rattle.schedd_core.specs.PlanChanges.{change_at, change_by, change_of, idle_change, held_change, complete_change}
 use Rattle.schedd_core.specs.ScheddParts.{IsMarked, IsPart, IsOrdered, IsFitting}
-use Rattle.schedd_core.specs.Schedds.{ScheddValue}
+use Rattle.schedd_state.specs.Schedds.{ScheddValue}
 use Rattle.schedd_core.proofs.PlanAds.{with_status, marked_held, runless, lengthened, granted, status_at, status_set, status_marked, status_runless, status_lengthened, status_granted, claim_lengthened, has_claim, under_kind}
 use Rattle.schedd_core.proofs.PlanJobs.{plan_ad, ad_of_plan, ad_elsewhere, left_after, jobs_after_plan, plan_there, Shown, shown}
 

@@ -35,14 +35,15 @@ use Rattle.schedd_table.specs.KeptClaims.{place_of_claim, engages}
 use Rattle.schedd_table.specs.KeptRuns.{place_of_run}
 use Rattle.schedd_table.specs.MailTable.{is_idle_place, granted_at, granted_row, is_spent_why, denied_claim, denied_row, order_row}
 use Rattle.schedd_table.specs.OrderTable.{remove_plan, hold_plan, resume_plan, resume_marked, can_be_held, is_waiting}
-use Rattle.schedd_core.specs.declared.answer.ScheddStep.{ScheddStep}
+use Rattle.schedd_state.specs.declared.answer.ScheddStep.{ScheddStep}
 use Rattle.schedd_core.specs.Checks.{policy_plan, after_check_by, after_check, with_look}
-use Rattle.schedd_core.specs.DueChecks.{was_checked}
+use Rattle.schedd_state.specs.DueChecks.{was_checked}
 use Rattle.schedd_core.specs.Logging.{reopened, IsReopened}
-use Rattle.schedd_core.specs.Reopening.{next_after, is_under_at, under_by, is_under_kind, still_left, found_runs, found_claims}
+use Rattle.schedd_state.specs.Reopening.{next_after, is_under_at, under_by, is_under_kind, still_left, found_runs, found_claims}
 use Rattle.schedd_core.specs.Rows.{stage_known, run_at, known_job, seen_at, gone_at, ended_at, ended_with, mail_row, noted_in, asked_in, after_row, after_mail}
-use Rattle.schedd_core.specs.Schedds.{ScheddValue, waits_for}
-use Rattle.schedd_core.specs.Ticks.{tick_line, IsSought, after_past, lengthened_by, after_lengthen, granted_by, after_grant, after_give_up, after_line, IsTicked}
+use Rattle.schedd_state.specs.Schedds.{ScheddValue, waits_for}
+use Rattle.schedd_state.specs.DueLines.{tick_line}
+use Rattle.schedd_core.specs.Ticks.{IsSought, after_past, lengthened_by, after_lengthen, granted_by, after_grant, after_give_up, after_line, IsTicked}
 use Rattle.schedd_core.proofs.FitsAfter.{Frees}
 use Rattle.schedd_core.proofs.Freed.{let_go_frees, end_frees}
 use Rattle.schedd_core.proofs.Lines.{LineTold, line_told, IdleAd, idle_at, sought_idle}

@@ -33,14 +33,14 @@ use Rattle.schedd_plan.specs.declared.plan.JobPlan.TheVariants as plan
 use Rattle.schedd_plan.specs.declared.reason.Reason.{Reason}
 use Rattle.schedd_plan.specs.Plans.{job_of, plan_ops}
 use Rattle.schedd_plan.specs.JobAttributes.{reason_text}
-use Rattle.schedd_core.specs.DueChecks.{was_checked, IsPassedTo, IsPassed, Passes, with_new}
+use Rattle.schedd_state.specs.DueChecks.{was_checked, IsPassedTo, IsPassed, Passes, with_new}
 use Rattle.schedd_core.specs.Logging.{after_plan, finished, reopened, IsReopened}
-use Rattle.schedd_core.specs.Reopening.{IsReader}
-use Rattle.schedd_core.specs.Schedds.{ScheddValue, IsOpened}
+use Rattle.schedd_state.specs.Reopening.{IsReader}
+use Rattle.schedd_state.specs.Schedds.{ScheddValue, IsOpened}
 use Rattle.schedd_core.specs.ScheddParts.{IsFitting, IsOrdered}
 use Rattle.schedd_core.proofs.AdChanges.{set_elsewhere, removed_elsewhere}
 use Rattle.schedd_core.proofs.FitsAfter.{ad_by}
-use Rattle.schedd_core.proofs.Fresh.{less_from}
+use Rattle.schedd_state.proofs.Fresh.{less_from}
 use Rattle.schedd_core.proofs.LostPlans.{GoesOn}
 use Rattle.schedd_core.proofs.PlanAds.{with_status, marked_held, runless, lengthened, granted}
 use Rattle.schedd_core.proofs.PlanJobs.{plan_ad, ad_of_plan, ad_elsewhere, plan_there}

@@ -14,10 +14,10 @@ use Rattle.queue_tx.specs.Jobs.{IsJobOf, kind_under}
 use Rattle.queue_tx.specs.Keys.{key_cmp}
 use Rattle.queue_tx.specs.Queues.{KeyedAds, ad_at}
 use Rattle.queue_tx.proofs.Queues.{exact_keys}
-use Rattle.schedd_core.specs.Reopening.{is_under_kind, under_by, is_under_at}
+use Rattle.schedd_state.specs.Reopening.{is_under_kind, under_by, is_under_at}
 use Rattle.schedd_core.specs.ScheddParts.{IsOrdered, Fits}
-use Rattle.schedd_core.specs.Schedds.{ScheddValue, IsOpened}
-use Rattle.schedd_core.specs.Searches.{is_later, AreUnder}
+use Rattle.schedd_state.specs.Schedds.{ScheddValue, IsOpened}
+use Rattle.schedd_state.specs.Searches.{is_later, AreUnder}
 use Rattle.schedd_core.proofs.PlanJobs.{under_ad}
 use Rattle.schedd_core.proofs.PlanMay.{in_left}
 

@@ -27,9 +27,10 @@ use Rattle.schedd_plan.specs.declared.plan.JobPlan.TheVariants as plan
 use Rattle.schedd_plan.specs.Plans.{job_of, plan_ops, run_ops, next_run_ops, header_op}
 use Rattle.schedd_table.specs.JobPlaces.{is_left}
 use Rattle.schedd_core.specs.JobStates.{NamesRun, ShowsState, ShowsEntry, ShowsJob, ShowsJobs, IsDone}
-use Rattle.schedd_core.specs.Logging.{taken_off, numbered}
+use Rattle.schedd_state.specs.Leaving.{taken_off}
+use Rattle.schedd_core.specs.Logging.{numbered}
 use Rattle.schedd_core.specs.PlanChanges.{Jobs, idle_change, held_change, complete_change, change_at, change_by, change_of, how_of}
-use Rattle.schedd_core.specs.Reopening.{is_under_kind, under_by, is_under_at}
+use Rattle.schedd_state.specs.Reopening.{is_under_kind, under_by, is_under_at}
 use Rattle.schedd_core.specs.ScheddParts.{IsOrdered, IsThere, IsFitting}
 use Rattle.schedd_core.proofs.PlanAds.{with_status, marked_held, runless, lengthened, granted, core_status, core_marked, core_runless, core_lengthened, core_granted, idle_kind, held_kind, has_claim, under_kind, run_status, run_marked, run_lengthened, run_granted, claim_status, claim_marked, claim_lengthened}
 use Rattle.schedd_core.proofs.QueueChanges.{made_at, ops_at, AllElsewhere, made_all, made_here, made_elsewhere, made_appended, same_proc}

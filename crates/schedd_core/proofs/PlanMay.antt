@@ -41,7 +41,7 @@ use Rattle.schedd_table.specs.KeptRuns.{run_of, is_run}
 use Rattle.schedd_core.specs.JobStates.{NamesRun, ShowsState}
 use Rattle.schedd_core.specs.PlanChanges.{idle_change, held_change, change_at, change_by, how_of, pends}
 use Rattle.schedd_core.specs.ScheddParts.{IsPart, IsUnderRun}
-use Rattle.schedd_core.specs.Schedds.{ScheddValue}
+use Rattle.schedd_state.specs.Schedds.{ScheddValue}
 use Rattle.schedd_core.proofs.PlanAds.{run_kind}
 use Rattle.schedd_core.proofs.PlanJobs.{shown_at}
 

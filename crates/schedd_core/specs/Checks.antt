@@ -1,15 +1,12 @@
 -- The periodic expressions of a job (HTCondor manual, condor_submit, periodic_hold,
 -- periodic_remove, periodic_release).
-use Rattle.std.specs.Prelude.{ℕ, Bool, true, false, ◌&&◌, ◌||◌, List, Option, Some, None, is_some, if◌then◌else◌}
+use Rattle.std.specs.Prelude.{ℕ, ◌&&◌, Option, Some, None, if◌then◌else◌}
 use Rattle.std.specs.BTreeMap.{insert_entry}
-use Rattle.std.specs.Map.{lookup}
 use Rattle.ad_names.specs.declared.job.TheConstants.{PERIODIC_HOLD, PERIODIC_REMOVE, PERIODIC_RELEASE}
 use Rattle.ad_tree.specs.Ad.{Attributes}
-use Rattle.ad_tree.specs.Ad as ad
 use Rattle.claim_id.specs.declared.numbers.JobId.{JobId}
 use Rattle.queue_tx.specs.declared.key.Key.TheVariants.{Proc}
-use Rattle.queue_tx.specs.Keys.{key_cmp, same_key}
-use Rattle.queue_tx.specs.Periodic.{has_periodic}
+use Rattle.queue_tx.specs.Keys.{key_cmp}
 use Rattle.queue_tx.specs.Queues.{KeyedAds, ad_at}
 use Rattle.schedd_plan.specs.declared.plan.JobPlan.{JobPlan}
 use Rattle.schedd_plan.specs.declared.reason.Reason.TheVariants.{ByPolicy}
@@ -17,26 +14,7 @@ use Rattle.schedd_table.specs.declared.places.JobPlace.{JobPlace}
 use Rattle.schedd_table.specs.EndTable.{is_asked_by}
 use Rattle.schedd_table.specs.JobPlaces.{job_place}
 use Rattle.schedd_table.specs.OrderTable.{remove_plan, hold_plan, resume_plan, can_be_held, is_waiting}
-use Rattle.schedd_table.specs.TickTable.{is_after}
-use Rattle.schedd_core.specs.Schedds.{ScheddValue, After, becomes, waits_for}
-
--- ---- when a look is due
-abbrev pub is_unchecked_since : Option ℕ → ℕ → ℕ → Bool
-is_unchecked_since None seconds reading = true
-is_unchecked_since (Some last) seconds reading = is_after last seconds reading
-
--- none since the pool opened or the schedd came back, or none for a while
-abbrev pub is_unchecked : ScheddValue → JobId → ℕ → Bool
-is_unchecked v job reading = is_unchecked_since (lookup (same_key (Proc job)) v.checked)
-    v.settings.periodic_interval reading
-
-abbrev pub is_check_due_by : Option Attributes → ScheddValue → JobId → ℕ → Bool
-is_check_due_by None v job reading = false
-is_check_due_by (Some attributes) v job reading =
-    has_periodic attributes && is_unchecked v job reading
-
-abbrev pub is_check_due : ScheddValue → KeyedAds → JobId → ℕ → Bool
-is_check_due v q job reading = is_check_due_by (ad_at (Proc job) q) v job reading
+use Rattle.schedd_state.specs.Schedds.{ScheddValue, After, becomes, waits_for}
 
 -- ---- what it does
 -- the first that holds: PeriodicHold, PeriodicRemove, PeriodicRelease

@@ -1,6 +1,3 @@
-pub mod Searches
-pub mod Reopening
-pub mod Schedds
 pub mod Rows
 pub mod Ticks
 pub mod Checks
@@ -8,6 +5,3 @@ pub mod Logging
 pub mod JobStates
 pub mod PlanChanges
 pub mod ScheddParts
-pub mod Looks
-pub mod DueChecks
-pub mod PreparedSchedds

@@ -1,5 +1,5 @@
 -- What is sent and forgotten once a plan is logged, and what the schedd is when it comes back.
-use Rattle.std.specs.Prelude.{◌≡◌, ℕ, ◌+◌, Bool, true, false, not, List, [], ◌∷◌, filter, Option, Some, None, slice_get}
+use Rattle.std.specs.Prelude.{◌≡◌, ℕ, ◌+◌, Bool, true, false, List, [], ◌∷◌, Option, Some, None, slice_get}
 use Rattle.std.specs.Map.{remove_entry}
 use Rattle.ad_tree.specs.Ad.{Attributes}
 use Rattle.claim_id.specs.declared.numbers.ClaimId.{ClaimId}
@@ -8,7 +8,6 @@ use Rattle.claim_id.specs.declared.numbers.RunNo.{RunNo}
 use Rattle.pool_mail.specs.Ads.{request_ad}
 use Rattle.pool_mail.specs.declared.mail.Mail.{Mail}
 use Rattle.pool_mail.specs.declared.mail.Mail.TheVariants as mail
-use Rattle.pool_view.specs.Numbers.{same_job}
 use Rattle.queue_tx.specs.declared.key.Key.TheVariants.{Proc}
 use Rattle.queue_tx.specs.Keys.{same_key}
 use Rattle.queue_tx.specs.Queues.{KeyedAds, ad_at}
@@ -19,9 +18,10 @@ use Rattle.schedd_plan.specs.declared.status.JobStatus.TheVariants as status
 use Rattle.schedd_plan.specs.JobAttributes.{status_of}
 use Rattle.schedd_table.specs.declared.runs.KeptRun.{KeptRun}
 use Rattle.schedd_table.specs.KeptRuns.{run_of, place_of_job}
-use Rattle.schedd_core.specs.Reopening.{IsReader, found_runs, found_claims, still_left, next_after}
-use Rattle.schedd_core.specs.Searches.{AreUnder}
-use Rattle.schedd_core.specs.Schedds.{ScheddValue, After, becomes, says}
+use Rattle.schedd_state.specs.Reopening.{IsReader, found_runs, found_claims, still_left, next_after}
+use Rattle.schedd_state.specs.Leaving.{taken_off}
+use Rattle.schedd_state.specs.Searches.{AreUnder}
+use Rattle.schedd_state.specs.Schedds.{ScheddValue, After, becomes, says}
 
 -- ---- what is sent
 abbrev pub run_in : Option KeptRun → Option RunNo
@@ -86,10 +86,6 @@ mails_of_plan v q (plan.Grant job claim number until header) =
     activates (ad_at (Proc job) q) (numbered claim number) job until
 
 -- ---- what is forgotten
--- a job is no longer one that was left
-abbrev pub taken_off : JobId → List JobId → List JobId
-taken_off job left = filter (λ other. not (same_job other job)) left
-
 abbrev pub let_off : JobId → ScheddValue → ScheddValue
 let_off job v = record v { left = taken_off job v.left; waiting = None }
 

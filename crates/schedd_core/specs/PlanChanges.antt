@@ -24,7 +24,7 @@ use Rattle.schedd_plan.specs.declared.plan.JobPlan.TheVariants as plan
 use Rattle.schedd_plan.specs.Plans.{job_of}
 use Rattle.schedd_core.specs.Logging.{numbered, run_of_job}
 use Rattle.schedd_core.specs.Rows.{after_mail}
-use Rattle.schedd_core.specs.Schedds.{ScheddValue}
+use Rattle.schedd_state.specs.Schedds.{ScheddValue}
 
 abbrev pub Jobs : Type 0
 Jobs = JobId → Option Entry

@@ -25,7 +25,7 @@ use Rattle.schedd_table.specs.KeptClaims.{place_of_claim, engages, with_stage, c
 use Rattle.schedd_table.specs.KeptRuns.{place_of_run, runs_without}
 use Rattle.schedd_table.specs.MailTable.{matched_row, granted_row, denied_row, order_row, fate_of_gone, after_fate}
 use Rattle.schedd_table.specs.OrderTable.{remove_plan, hold_plan, resume_plan}
-use Rattle.schedd_core.specs.Schedds.{ScheddValue, After, becomes, says, waits}
+use Rattle.schedd_state.specs.Schedds.{ScheddValue, After, becomes, says, waits}
 
 -- ---- what is known of a claim: its place, and how far it has come
 abbrev pub known_stage : ℕ → Option KeptClaim → Option (ℕ × Stage)

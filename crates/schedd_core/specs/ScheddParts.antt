@@ -26,8 +26,8 @@ use Rattle.schedd_table.specs.declared.runs.KeptRun.{KeptRun}
 use Rattle.schedd_table.specs.JobPlaces.{is_left}
 use Rattle.schedd_core.specs.JobStates.{NamesRun, ShowsJobs}
 use Rattle.schedd_core.specs.Logging.{after_plan, is_stopped, numbered}
-use Rattle.schedd_core.specs.Reopening.{is_under_at}
-use Rattle.schedd_core.specs.Schedds.{ScheddValue, After}
+use Rattle.schedd_state.specs.Reopening.{is_under_at}
+use Rattle.schedd_state.specs.Schedds.{ScheddValue, After}
 
 -- ---- the part of the protocol that a schedd and its queue are
 -- a job that is under a claim is marked as one to be removed

@@ -20,16 +20,16 @@ ghost use Rattle.schedd_plan.specs.declared.plan.JobPlan.{JobPlan};
 ghost use Rattle.schedd_plan.specs.Plans.{plan_ops};
 ghost use Rattle.schedd_table.specs.declared.claims.KeptClaim.{KeptClaim};
 ghost use Rattle.schedd_table.specs.JobPlaces.{is_left};
-ghost use Rattle.schedd_core.specs.declared.answer.ScheddStep.{ScheddStep};
+ghost use Rattle.schedd_state.specs.declared.answer.ScheddStep.{ScheddStep};
 ghost use Rattle.schedd_core.specs.Checks.{after_check};
-ghost use Rattle.schedd_core.specs.DueChecks.{IsPassed, Passes, with_new};
+ghost use Rattle.schedd_state.specs.DueChecks.{IsPassed, Passes, with_new};
 ghost use Rattle.schedd_core.specs.JobStates.{ShowsJobs};
 ghost use Rattle.schedd_core.specs.Logging.{IsReopened, after_plan, mails_of_plan, run_of_job};
 ghost use Rattle.schedd_core.specs.PlanChanges.{change_of, moves_of_logged, moves_of_mail, moves_of_order, pends};
-ghost use Rattle.schedd_core.specs.Reopening.{IsReader};
+ghost use Rattle.schedd_state.specs.Reopening.{IsReader};
 ghost use Rattle.schedd_core.specs.Rows.{after_mail};
 ghost use Rattle.schedd_core.specs.ScheddParts.{Fits, FitsOn, IsAllowed, IsFitting, IsHeard, IsLeased, IsOfClaim, IsOrdered, IsPart, LeasesGrow};
-ghost use Rattle.schedd_core.specs.Schedds.{IsOpened, ScheddValue, crashed, engages_job};
+ghost use Rattle.schedd_state.specs.Schedds.{IsOpened, ScheddValue, crashed, engages_job};
 ghost use Rattle.schedd_core.specs.Ticks.{IsTicked};
 
 /// The keys of a queue that transactions build stand in order, and the names of each of its ads

@@ -1,19 +1,17 @@
-//! The schedd as a state machine over the queue as logged: its claims, the runs under them, and the
-//! jobs that an earlier boot of the pool left (HTCondor manual, "Job Scheduling" and "Policy
-//! Configuration for Submit Hosts").
+//! What each event makes of a schedd, over the queue as logged: a mail, a tick, a look at the
+//! periodic expressions of a job, a plan that was logged, and its coming back (HTCondor manual,
+//! "Job Scheduling" and "Policy Configuration for Submit Hosts").
 #![tactic(auto)]
 
-mod answer;
-mod change;
-mod due_checks;
+mod checks;
 pub mod laws;
-mod looks;
-mod new_look;
-mod prepared;
+mod logging;
+mod mails;
 mod reopened;
-mod schedd;
-mod search;
+mod ticks;
 
-pub use answer::ScheddStep;
-pub use prepared::PreparedSchedd;
-pub use schedd::Schedd;
+pub use checks::{check, prepare_check};
+pub use logging::{logged, prepare_logged};
+pub use mails::{prepare_receive, receive};
+pub use reopened::{prepare_reopen, reopen};
+pub use ticks::{prepare_tick, tick};

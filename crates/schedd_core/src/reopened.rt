@@ -1,23 +1,76 @@
-// What the schedd finds in the queue when it comes back.
+// What a schedd is when it comes back, by what it finds in the queue.
 
-ghost use Rattle.std.specs.Prelude.{◌≡◌, ◌+◌, ◌++◌, ℕ, List, Option, IfOk};
+ghost use Rattle.std.specs.Prelude.{◌≡◌, ◌+◌, ◌++◌, ℕ, List, Option, IfOk, OnErr};
 ghost use Rattle.ad_tree.specs.Tree.{tree};
 ghost use Rattle.claim_id.specs.declared.numbers.ClaimId.{ClaimId};
 ghost use Rattle.queue_tx.specs.Queues.{ad_at};
 ghost use Rattle.queue_tx.specs.declared.key.Key.TheVariants.{Proc};
-ghost use Rattle.schedd_core.specs.Reopening.{IsReader, claim_in, claim_in_tree, found_run, run_found, found_runs, found_claims, claim_found, still_left, is_under_at, next_after, first_run, run_from, one_run, one_claim, is_under_kind};
+ghost use Rattle.schedd_state.specs.PreparedSchedds.{HasClaimRoom, schedd_after};
+ghost use Rattle.schedd_state.specs.Reopening.{IsReader, claim_in, claim_in_tree, found_run, run_found, found_runs, found_claims, claim_found, still_left, is_under_at, next_after, one_run, one_claim, is_under_kind};
+ghost use Rattle.schedd_state.specs.Schedds.{nothing_done};
+ghost use Rattle.schedd_core.specs.Logging.{IsReopened};
 
 use ad_names::pool::RUN_CLAIM;
 use ad_tree::{Ad, Expr};
 use ad_value::{Copied, Memory, Value};
 use claim_id::{ClaimId, JobId};
-use queue_tx::{JobKind, Key, NEXT_RUN_NUM, Queue, kind_of};
-use schedd_plan::{JobPlan, natural_at, run_number};
+use queue_tx::{JobKind, Queue, kind_of};
+use schedd_plan::{JobPlan, run_number};
+use schedd_state::{
+    ClaimsChange, LeftChange, LooksChange, PreparedSchedd, RunsChange, Schedd, ScheddChange,
+    ScheddStep, under_jobs,
+};
 use schedd_table::{KeptClaim, KeptRun, Stage, ad_of, is_left};
 use std::alloc::Global;
 
-/// The last number that a run may have at the opening of a pool.
-pub const LAST_RUN_NUMBER: u64 = 4_611_686_018_427_387_904;
+/// The schedd comes back after a crash, with the queue as logged: what waited is in it, or is
+/// lost. Of what it knew it has the jobs that an earlier boot left, and the next run's number.
+/// After an error the schedd is as it was. Computes in O(jobs under a claim times log jobs, and
+/// times jobs left).
+pub fn reopen(
+    schedd: &mut Schedd,
+    alloc: Global,
+    queue: &Queue,
+    reading: u64,
+) -> Result<ScheddStep, Memory>
+    ensures schedd { IfOk result (λ _. IsReopened schedd.old queue.now reading schedd.new) }
+    ensures step { IfOk result (λ step. step ≡ nothing_done) }
+    ensures kept { OnErr result (schedd.new ≡ schedd.old) }
+{
+    let prepared = prepare_reopen(schedd, alloc, queue, reading)?;
+    Ok(schedd.commit(prepared))
+}
+
+/// `reopen` but for its `commit`: takes the memory, and changes nothing.
+#[tactic(auto, unfolding(crate::specs::Logging::reopened))]
+pub fn prepare_reopen(
+    schedd: &Schedd,
+    alloc: Global,
+    queue: &Queue,
+    reading: u64,
+) -> Result<PreparedSchedd, Memory>
+    ensures schedd { IfOk result (λ p. IsReopened schedd.now queue.now reading
+        (schedd_after p schedd.now)) }
+    ensures step { IfOk result (λ p. p.step ≡ nothing_done) }
+    ensures room { IfOk result (λ p. HasClaimRoom p schedd.now) }
+{
+    let next_run = next_after(queue, schedd.waiting(), schedd.next_run())?;
+    let jobs = under_jobs(alloc, queue)?;
+    let left = still_left(alloc, queue, schedd.left())?;
+    let runs = found_runs(alloc, queue, &jobs, &left, reading)?;
+    let claims = found_claims(alloc, queue, &runs)?;
+    Ok(PreparedSchedd {
+        change: ScheddChange {
+            next_run,
+            left: LeftChange::All(left),
+            claims: ClaimsChange::All(claims),
+            runs: RunsChange::All(runs),
+            looks: LooksChange::Clear,
+            waiting: None,
+        },
+        step: ScheddStep::nothing(alloc),
+    })
+}
 
 // The claim whose text an expression is.
 fn claim_in_tree(expr: &Expr) -> Option<ClaimId>
@@ -79,8 +132,8 @@ fn push_some(runs: &mut Vec<KeptRun>, run: Option<KeptRun>) -> Result<(), Memory
     Ok(())
 }
 
-/// The runs under which jobs of the queue are, in order of the jobs, but for jobs that were left.
-pub(crate) fn found_runs(
+// The runs under which jobs of the queue are, in order of the jobs, but for jobs that were left.
+fn found_runs(
     alloc: Global,
     queue: &Queue,
     jobs: &[JobId],
@@ -125,12 +178,8 @@ fn push_claim(
     Ok(())
 }
 
-/// The claims of runs that were found, in the same order.
-pub(crate) fn found_claims(
-    alloc: Global,
-    queue: &Queue,
-    runs: &[KeptRun],
-) -> Result<Vec<KeptClaim>, Memory>
+// The claims of runs that were found, in the same order.
+fn found_claims(alloc: Global, queue: &Queue, runs: &[KeptRun]) -> Result<Vec<KeptClaim>, Memory>
     ensures { IfOk result (λ claims. claims.items ≡ found_claims queue.now runs.now) }
 {
     let mut claims = Vec::new(alloc);
@@ -140,8 +189,8 @@ pub(crate) fn found_claims(
     Ok(claims)
 }
 
-/// Whether a job is under a claim.
-pub(crate) fn is_under_at(queue: &Queue, job: JobId) -> bool
+// Whether a job is under a claim.
+fn is_under_at(queue: &Queue, job: JobId) -> bool
     ensures { result ≡ is_under_at queue.now job }
 {
     match ad_of(queue, job) {
@@ -159,8 +208,8 @@ fn is_under_kind(kind: Option<JobKind>) -> bool
     }
 }
 
-/// The jobs that were left and weren't let go.
-pub(crate) fn still_left(alloc: Global, queue: &Queue, left: &[JobId]) -> Result<Vec<JobId>, Memory>
+// The jobs that were left and weren't let go.
+fn still_left(alloc: Global, queue: &Queue, left: &[JobId]) -> Result<Vec<JobId>, Memory>
     ensures { IfOk result (λ jobs. jobs.items ≡ still_left queue.now left.now) }
 {
     let mut jobs = Vec::new(alloc);
@@ -172,9 +221,9 @@ pub(crate) fn still_left(alloc: Global, queue: &Queue, left: &[JobId]) -> Result
     Ok(jobs)
 }
 
-/// The number of the run that is granted next, where it was `next` and a plan waited. Memory too
-/// where that is 2 to the 64.
-pub(crate) fn next_after(queue: &Queue, waiting: Option<JobPlan>, next: u64) -> Result<u64, Memory>
+// The number of the run that is granted next, where it was `next` and a plan waited. Memory too
+// where that is 2 to the 64.
+fn next_after(queue: &Queue, waiting: Option<JobPlan>, next: u64) -> Result<u64, Memory>
     ensures { IfOk result (λ n. n ≡ next_after queue.now waiting next) }
 {
     match waiting {
@@ -195,24 +244,5 @@ pub(crate) fn number_after(number: u64) -> Result<u64, Memory>
     match number.checked_add(1) {
         Some(next) => Ok(next),
         None => Err(Memory),
-    }
-}
-
-/// The number of the run that is granted first, by the header's ad.
-pub(crate) fn first_run(queue: &Queue) -> u64
-    ensures { result ≡ first_run queue.now }
-{
-    match queue.get(&Key::Header) {
-        Some(ad) => run_from(natural_at(ad, NEXT_RUN_NUM)),
-        None => 1,
-    }
-}
-
-fn run_from(number: Option<u64>) -> u64
-    ensures { result ≡ run_from number }
-{
-    match number {
-        Some(number) if 0 < number && number <= LAST_RUN_NUMBER => number,
-        _ => 1,
     }
 }

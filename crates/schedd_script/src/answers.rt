@@ -2,8 +2,8 @@ use cases::{CaseError, escape};
 use daemon_texts::write_mails;
 use queue_record::{PrintError, print_tx};
 use queue_tx::Tx;
-use schedd_core::ScheddStep;
 use schedd_plan::JobPlan;
+use schedd_state::ScheddStep;
 use std::alloc::Global;
 
 /// Appends the mails that a schedd sends, and the transaction that is to be logged or `-`.

@@ -6,8 +6,9 @@ use cases::{Case, CaseError};
 use claim_id::JobId;
 use daemon_texts::{mail_of, read_job};
 use pool_mail::{Mail, Settings};
-use schedd_core::{Schedd, ScheddStep};
+use schedd_core::{check, logged, receive, reopen, tick};
 use schedd_plan::JobPlan;
+use schedd_state::{Schedd, ScheddStep};
 use std::alloc::Global;
 
 /// A schedd, its queue as logged, and the plan whose transaction is unfinished. After an error it
@@ -124,7 +125,7 @@ impl ScheddScript {
         reading: u64,
         out: &mut String,
     ) -> Result<(), CaseError> {
-        let step = self.schedd.receive(alloc, self.log.queue(), mail, reading);
+        let step = receive(&mut self.schedd, alloc, self.log.queue(), mail, reading);
         self.take_step(alloc, step, out)
     }
 
@@ -139,7 +140,7 @@ impl ScheddScript {
             out.push_str("NotDue")?;
             return Ok(());
         }
-        let step = self.schedd.tick(alloc, self.log.queue(), reading);
+        let step = tick(&mut self.schedd, alloc, self.log.queue(), reading);
         self.take_step(alloc, step, out)
     }
 
@@ -168,7 +169,7 @@ impl ScheddScript {
             out.push_str("NotDue")?;
             return Ok(());
         }
-        let step = self.schedd.check(alloc, self.log.queue(), job, reading);
+        let step = check(&mut self.schedd, alloc, self.log.queue(), job, reading);
         self.take_step(alloc, step, out)
     }
 
@@ -184,7 +185,7 @@ impl ScheddScript {
             return Err(CaseError::Number { line: case.line });
         }
         self.log.add_plan(alloc, case, plan)?;
-        let step = self.schedd.logged(alloc, self.log.queue());
+        let step = logged(&mut self.schedd, alloc, self.log.queue());
         self.take_step(alloc, step, out)
     }
 
@@ -198,7 +199,7 @@ impl ScheddScript {
         let (fate, reading) = case.two_fields()?;
         let reading = case.natural(reading)?;
         self.settle_plan(alloc, case, fate, plan)?;
-        let step = self.schedd.reopen(alloc, self.log.queue(), reading);
+        let step = reopen(&mut self.schedd, alloc, self.log.queue(), reading);
         self.take_step(alloc, step, out)
     }
 

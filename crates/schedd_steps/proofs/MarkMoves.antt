@@ -16,8 +16,8 @@ use Rattle.queue_tx.specs.Queues.{IsQueue, KeyedAds, ad_at}
 use Rattle.queue_tx.proofs.PeriodicJobs.{periodic_is_there}
 use Rattle.queue_tx.proofs.Queues.{exact_keys}
 use Rattle.queue_tx.proofs.Transactions.{same_keys}
-use Rattle.schedd_core.specs.DueChecks.{IsFar, IsNextPeriodic, Passes, was_checked}
-use Rattle.schedd_core.proofs.Passing.{fewer_left, left_above, passed_to}
+use Rattle.schedd_state.specs.DueChecks.{IsFar, IsNextPeriodic, Passes, was_checked}
+use Rattle.schedd_state.proofs.Passing.{fewer_left, left_above, passed_to}
 
 -- ---- keys of a queue
 -- a key is before all that stand after it

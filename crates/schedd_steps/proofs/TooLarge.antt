@@ -11,9 +11,9 @@ use Rattle.pool_tables.specs.declared.sent.Sent.{Sent}
 use Rattle.queue_tx.specs.Queues.{IsQueue}
 use Rattle.schedd_core.specs.Checks.{after_check}
 use Rattle.schedd_core.specs.Rows.{after_mail as schedd_mail}
-use Rattle.schedd_core.specs.Schedds.{ScheddValue}
+use Rattle.schedd_state.specs.Schedds.{ScheddValue}
 use Rattle.schedd_core.specs.Ticks.{IsTicked}
-use Rattle.schedd_core.specs.declared.answer.ScheddStep.{ScheddStep}
+use Rattle.schedd_state.specs.declared.answer.ScheddStep.{ScheddStep}
 use Rattle.schedd_steps.proofs.MarkMoves.{mark_moves}
 
 pub ticks_too_large : (s : PoolState) (reading : ℕ) (v : ScheddValue) (step : ScheddStep) → IsTicked s.schedd s.queue reading v step → MAX_BYTES < s.counts.bytes + mails_count step.mails

@@ -10,10 +10,10 @@ use Rattle.pool_pending.specs.declared.pending.Unfinished.TheVariants.{Submissio
 use Rattle.pool_state.specs.declared.state.PoolState.{PoolState}
 use Rattle.queue_tx.specs.declared.key.Key.TheVariants.{Proc}
 use Rattle.queue_tx.specs.Queues.{KeyedAds, with_changes}
-use Rattle.schedd_core.specs.DueChecks.{with_new}
+use Rattle.schedd_state.specs.DueChecks.{with_new}
 use Rattle.schedd_core.specs.Logging.{IsReopened}
-use Rattle.schedd_core.specs.Reopening.{IsReader}
-use Rattle.schedd_core.specs.Schedds.{ScheddValue}
+use Rattle.schedd_state.specs.Reopening.{IsReader}
+use Rattle.schedd_state.specs.Schedds.{ScheddValue}
 use Rattle.schedd_plan.specs.declared.plan.JobPlan.{JobPlan}
 use Rattle.schedd_steps.specs.declared.logging.LogDeed.{LogDeed}
 use Rattle.pool_moves.specs.Answers.{answered}

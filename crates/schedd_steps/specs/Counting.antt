@@ -7,9 +7,9 @@ use Rattle.pool_moves.specs.Logging.{cluster_jobs, with_leaver}
 use Rattle.pool_state.specs.declared.state.PoolState.{PoolState}
 use Rattle.queue_tx.specs.declared.key.Key.TheVariants.{Proc}
 use Rattle.queue_tx.specs.Queues.{KeyedAds}
-use Rattle.schedd_core.specs.DueChecks.{with_new}
+use Rattle.schedd_state.specs.DueChecks.{with_new}
 use Rattle.schedd_core.specs.Logging.{after_logged, IsReopened}
-use Rattle.schedd_core.specs.Schedds.{After, ScheddValue}
+use Rattle.schedd_state.specs.Schedds.{After, ScheddValue}
 use Rattle.schedd_steps.specs.declared.logging.CountDeed.{CountDeed}
 
 -- the bytes of ads with that queue

@@ -6,9 +6,9 @@ use Rattle.pool_pending.specs.declared.pending.Pending.{Pending}
 use Rattle.pool_state.specs.declared.state.PoolState.{PoolState}
 use Rattle.queue_growth.specs.Growth.{Grows}
 use Rattle.queue_tx.specs.Queues.{queue_after, with_changes}
-use Rattle.schedd_core.specs.Reopening.{IsReader}
+use Rattle.schedd_state.specs.Reopening.{IsReader}
 use Rattle.schedd_core.specs.Rows.{after_mail}
-use Rattle.schedd_core.specs.PreparedSchedds.{schedd_after}
+use Rattle.schedd_state.specs.PreparedSchedds.{schedd_after}
 use Rattle.schedd_steps.specs.declared.logging.LogDeed.{LogDeed}
 use Rattle.schedd_steps.specs.declared.schedd.ScheddDeed.{ScheddDeed}
 use Rattle.pool_moves.specs.Deeds.{ordered_by}

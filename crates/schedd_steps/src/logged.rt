@@ -7,8 +7,8 @@ ghost use Rattle.pool_limits.specs.Sizes.{mails_count, queue_count};
 ghost use Rattle.pool_limits.specs.declared.size.TheConstants.{MAX_BYTES};
 ghost use Rattle.pool_outer.specs.declared.gate.Daemon.TheVariants.{Schedd};
 ghost use Rattle.pool_tables.specs.declared.refusal.StepError.TheVariants as error;
-ghost use Rattle.schedd_core.specs.DueChecks.{with_new};
-ghost use Rattle.schedd_core.specs.PreparedSchedds.{HasClaimRoom, schedd_after};
+ghost use Rattle.schedd_state.specs.DueChecks.{with_new};
+ghost use Rattle.schedd_state.specs.PreparedSchedds.{HasClaimRoom, schedd_after};
 ghost use Rattle.queue_tx.specs.declared.key.Key.TheVariants.{Proc};
 ghost use Rattle.queue_growth.specs.Growth.{Grows};
 ghost use Rattle.queue_tx.specs.Queues.{with_changes};
@@ -28,13 +28,14 @@ use pool_state::PoolState;
 use pool_steps::{bytes_with, join, limited, new_jobs, nothing_asked};
 use pool_tables::StepError;
 use queue_tx::Prepared;
-use schedd_core::PreparedSchedd;
+use schedd_core::{prepare_logged, prepare_reopen};
+use schedd_state::PreparedSchedd;
 use std::alloc::Global;
 
 /// The unfinished transaction is logged: the jobs of a submission are acknowledged, and what waited
 /// for a plan is sent. Bytes where the pool would have more bytes of ads than it may; Memory too
 /// where nothing is unfinished, or where it can't be done to the queue; after an error the pool is
-/// as it was. Computes as `Queue::prepare` and `Queue::commit`, and as `Schedd::logged`.
+/// as it was. Computes as `Queue::prepare` and `Queue::commit`, and as schedd_core's `logged`.
 pub fn take_logged(alloc: Global, state: &mut PoolState) -> Result<Stepped, StepError>
     ensures logged { IfOk result (λ r. IsSomeAnd state.old.pending
         (λ p. IsLogged (at_rest state.old) p (at_rest state.new) r)) }
@@ -201,7 +202,7 @@ fn ready_logged(alloc: Global, state: &mut PoolState, bytes: u64) -> Result<Sche
         state.old.schedd state.old.queue state.old.schedd.waiting).step.mails }
     ensures refused { IfErr result IsLimit }
 {
-    let prepared = state.schedd.prepare_logged(alloc, &state.queue)?;
+    let prepared = prepare_logged(&state.schedd, alloc, &state.queue)?;
     let bytes = bytes_with(bytes, prepared.step().mails.as_slice())?;
     state.mails.room(prepared.step().mails.len())?;
     Ok(ScheddGoesOn { prepared, bytes })
@@ -212,7 +213,7 @@ fn ready_logged(alloc: Global, state: &mut PoolState, bytes: u64) -> Result<Sche
 /// The schedd comes back, with its unfinished transaction in the log where it is kept, and without
 /// it otherwise. Bytes where the pool would have more bytes of ads than it may; Memory too where
 /// nothing is unfinished that is kept, or where it can't be done to the queue; after an error the
-/// pool is as it was. Computes as `Schedd::reopen`, and where a transaction is kept as
+/// pool is as it was. Computes as schedd_core's `reopen`, and where a transaction is kept as
 /// `Queue::prepare` and `Queue::commit`.
 pub fn reopen_schedd(
     alloc: Global,
@@ -244,7 +245,7 @@ fn reopen_lost(alloc: Global, state: &mut PoolState, reading: u64) -> Result<Ste
     ensures refused { IfErr result IsLimit }
     ensures kept { OnErr result (state.new ≡ state.old) }
 {
-    let prepared = state.schedd.prepare_reopen(alloc, &state.queue, reading)?;
+    let prepared = prepare_reopen(&state.schedd, alloc, &state.queue, reading)?;
     let _bytes = limited(state.counts.bytes)?;
     let _step = state.schedd.commit(prepared);
     state.pending = None;
@@ -319,7 +320,7 @@ fn ready_back(
         → IsBackTooLarge state.now.schedd state.now.queue reading bytes }
     ensures refused { IfErr result IsLimit }
 {
-    let prepared = state.schedd.prepare_reopen(alloc, &state.queue, reading)?;
+    let prepared = prepare_reopen(&state.schedd, alloc, &state.queue, reading)?;
     let bytes = limited(bytes)?;
     Ok(ScheddGoesOn { prepared, bytes })
 }

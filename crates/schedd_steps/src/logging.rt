@@ -7,7 +7,7 @@ ghost use Rattle.claim_id.specs.declared.numbers.ClaimId.{ClaimId};
 ghost use Rattle.queue_growth.specs.Growth.{Grows};
 ghost use Rattle.queue_tx.specs.Queues.{queue_after, with_changes};
 ghost use Rattle.schedd_core.specs.PlanChanges.{how_of};
-ghost use Rattle.schedd_core.specs.Reopening.{IsReader, claim_in, claim_in_tree};
+ghost use Rattle.schedd_state.specs.Reopening.{IsReader, claim_in, claim_in_tree};
 ghost use Rattle.pool_limits.specs.Sizes.{queue_count};
 ghost use Rattle.schedd_steps.specs.Counting.{with_counts};
 ghost use Rattle.schedd_steps.specs.Ready.{IsLogDeed};

@@ -1,7 +1,7 @@
 // What the schedd does.
 
 ghost use Rattle.std.specs.Prelude.{◌≡◌, ◌+◌, ◌<◌, ◌≤◌, ◌^◌, Err, length, slice_get, IfErr, IfOk, IfSome, IsSomeAnd, OnErr, OnOk};
-ghost use Rattle.schedd_core.specs.PreparedSchedds.{HasClaimRoom, schedd_after};
+ghost use Rattle.schedd_state.specs.PreparedSchedds.{HasClaimRoom, schedd_after};
 ghost use Rattle.pool_moves.specs.Answers.{answered, answer_with, pending_by};
 ghost use Rattle.pool_limits.specs.Sizes.{mails_count};
 ghost use Rattle.pool_limits.specs.declared.size.TheConstants.{MAX_BYTES};
@@ -23,8 +23,9 @@ use pool_state::PoolState;
 use pool_steps::{Begun, bytes_with, join, maybe_job, nothing_asked};
 use pool_tables::StepError;
 use queue_tx::{Key, Queue};
-use schedd_core::PreparedSchedd;
+use schedd_core::{prepare_check, prepare_receive, prepare_tick};
 use schedd_plan::JobPlan;
+use schedd_state::PreparedSchedd;
 use std::alloc::Global;
 use std::collections::LinkedList;
 
@@ -158,8 +159,8 @@ fn take_deed(state: &mut PoolState, deed: ScheddDeed) -> Result<Stepped, Memory>
 }
 
 /// Time passes for the schedd. Bytes where the pool would have more bytes of ads than it may; after
-/// an error the pool is as it was. Computes as `Schedd::tick`, and in O(size of what is sent and is
-/// to be logged).
+/// an error the pool is as it was. Computes as schedd_core's `tick`, and in O(size of what is sent
+/// and is to be logged).
 pub fn tick_schedd(alloc: Global, state: &mut PoolState, reading: u64) -> Result<Stepped, StepError>
     ensures ticked { IfOk result
         (ScheddTicks (at_rest state.old) reading (at_rest state.new)) }
@@ -169,7 +170,7 @@ pub fn tick_schedd(alloc: Global, state: &mut PoolState, reading: u64) -> Result
     ensures refused { IfErr result IsLimit }
     ensures kept { OnErr result (at_rest state.new ≡ at_rest state.old) }
 {
-    let prepared = state.schedd.prepare_tick(alloc, &state.queue, reading)?;
+    let prepared = prepare_tick(&state.schedd, alloc, &state.queue, reading)?;
     let deed = ScheddDeed::new(alloc, state, prepared, None)?;
     let stepped = take_deed(state, deed)?;
     Ok(stepped)
@@ -177,8 +178,8 @@ pub fn tick_schedd(alloc: Global, state: &mut PoolState, reading: u64) -> Result
 
 /// The schedd looks at the periodic expressions of a job, and the mark up to which all jobs were
 /// looked at moves on. Bytes where the pool would have more bytes of ads than it may; after an
-/// error the pool is as it was. Computes as `Schedd::check` and `Schedd::move_mark`, and in O(size
-/// of what is to be logged).
+/// error the pool is as it was. Computes as schedd_core's `check` and `Schedd::move_mark`, and in
+/// O(size of what is to be logged).
 pub fn check(
     alloc: Global,
     state: &mut PoolState,
@@ -194,9 +195,7 @@ pub fn check(
     ensures kept { OnErr result (at_rest state.new ≡ at_rest state.old) }
 {
     show_order(&state.queue);
-    let prepared = state
-        .schedd
-        .prepare_check(alloc, &state.queue, job, reading)?;
+    let prepared = prepare_check(&state.schedd, alloc, &state.queue, job, reading)?;
     let ordered = ordered_job(prepared.step().plan);
     let deed = ScheddDeed::new(alloc, state, prepared, ordered)?;
     let stepped = take_deed(state, deed)?;
@@ -236,9 +235,7 @@ fn ready_receipt(
     let Some(sent) = state.mails.get(index) else {
         return Err(StepError::Memory);
     };
-    let prepared = state
-        .schedd
-        .prepare_receive(alloc, &state.queue, &sent.mail, reading)?;
+    let prepared = prepare_receive(&state.schedd, alloc, &state.queue, &sent.mail, reading)?;
     let ordered = ordered_by(&sent.mail, known);
     ScheddDeed::new(alloc, state, prepared, ordered)
 }
@@ -246,7 +243,7 @@ fn ready_receipt(
 /// The schedd receives the mail of a number; `known` says whether the pool has or had the job that
 /// the mail orders to be removed. Bytes where the pool would have more bytes of ads than it may;
 /// Memory too where there is no such mail; after an error the pool is as it was. Computes as
-/// `Schedd::receive`, and in O(size of what is sent and is to be logged).
+/// schedd_core's `receive`, and in O(size of what is sent and is to be logged).
 pub fn receive_by_schedd(
     alloc: Global,
     state: &mut PoolState,

@@ -13,7 +13,7 @@ use Rattle.pool_tables.specs.declared.refusal.StepError.{StepError}
 use Rattle.pool_tables.specs.declared.refusal.StepError.TheVariants as step_errors
 use Rattle.pool_tables.specs.DaemonTables.{daemon_state}
 use Rattle.pool_tables.specs.MailLists.{IsMailTo, IsNextMail, IsOfPool, mail_error}
-use Rattle.schedd_core.specs.DueChecks.{IsFirstDue}
+use Rattle.schedd_state.specs.DueChecks.{IsFirstDue}
 
 -- the first cause that holds, or want of memory
 abbrev pub IsRefusedHere : PoolState → Event → StepError → Type 0

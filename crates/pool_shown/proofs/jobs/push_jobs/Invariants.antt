@@ -2,7 +2,7 @@
 use Rattle.std.proofs.Common.{◌≡◌, ℕ, ◌++◌, List, Option, drop}
 use Rattle.std.specs.Prelude.{filter_map}
 use Rattle.claim_id.specs.declared.numbers.ClaimId.{ClaimId}
-use Rattle.schedd_core.specs.Reopening.{IsReader}
+use Rattle.schedd_state.specs.Reopening.{IsReader}
 use Rattle.pool_shown.specs.ShownJobs.{shown_entry}
 use Rattle.pool_shown.proofs.jobs.push_jobs.Given as goal
 

@@ -1,5 +1,5 @@
 use Rattle.std.proofs.Common.{◌∙◌}
-use Rattle.schedd_core.proofs.Readers.{read_is}
+use Rattle.schedd_state.proofs.Readers.{read_is}
 use Rattle.schedd_core.proofs.reopened.claim_of_text.Goals as goal
 
 pub returns : goal.returns

@@ -1,7 +1,7 @@
 -- What comes of the jobs that are left is what comes of all.
 use Rattle.std.proofs.Common.{◌≡◌, ℕ, List, Option, drop}
 use Rattle.claim_id.specs.declared.numbers.ClaimId.{ClaimId}
-use Rattle.schedd_core.specs.Reopening.{IsReader, found_behind, found_runs}
+use Rattle.schedd_state.specs.Reopening.{IsReader, found_behind, found_runs}
 use Rattle.schedd_core.proofs.reopened.found_runs.Given as goal
 
 abbrev pub invariant-loop-job : goal.invariant-loop-job

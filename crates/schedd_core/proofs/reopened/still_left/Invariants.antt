@@ -1,7 +1,7 @@
 -- Those of the jobs so far.
 use Rattle.std.proofs.Common.{◌≡◌, take}
 use Rattle.std.specs.Prelude.{filter}
-use Rattle.schedd_core.specs.Reopening.{is_under_at}
+use Rattle.schedd_state.specs.Reopening.{is_under_at}
 use Rattle.schedd_core.proofs.reopened.still_left.Given as goal
 
 abbrev pub invariant-loop-job : goal.invariant-loop-job

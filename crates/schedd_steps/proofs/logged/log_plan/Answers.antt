@@ -1,11 +1,11 @@
 use Rattle.std.proofs.Common.{◌≡◌, ℕ, List, ap, ◌∙◌}
-use Rattle.schedd_core.specs.PreparedSchedds.{schedd_after}
+use Rattle.schedd_state.specs.PreparedSchedds.{schedd_after}
 use Rattle.pool_mail.specs.declared.mail.Mail.{Mail}
 use Rattle.pool_state.specs.declared.state.PoolState.{PoolState}
 use Rattle.pool_tables.specs.MailLists.{MailsValue}
 use Rattle.queue_tx.specs.Queues.{with_changes}
-use Rattle.schedd_core.specs.declared.answer.ScheddStep.{ScheddStep}
-use Rattle.schedd_core.specs.Schedds.{ScheddValue}
+use Rattle.schedd_state.specs.declared.answer.ScheddStep.{ScheddStep}
+use Rattle.schedd_state.specs.Schedds.{ScheddValue}
 use Rattle.pool_moves.specs.Deeds.{posts, rested}
 use Rattle.schedd_steps.specs.Counting.{bytes_planned, logged_by, with_counts}
 use Rattle.pool_steps.proofs.Posting.{posted_all}

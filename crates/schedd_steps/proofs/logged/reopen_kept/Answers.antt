@@ -1,8 +1,8 @@
 use Rattle.std.proofs.Common.{rules, ◌≡◌, ℕ, ap, ◌∙◌}
-use Rattle.schedd_core.specs.PreparedSchedds.{schedd_after}
+use Rattle.schedd_state.specs.PreparedSchedds.{schedd_after}
 use Rattle.pool_state.specs.declared.state.PoolState.{PoolState}
 use Rattle.queue_tx.specs.Queues.{with_changes}
-use Rattle.schedd_core.specs.Schedds.{ScheddValue}
+use Rattle.schedd_state.specs.Schedds.{ScheddValue}
 use Rattle.pool_moves.specs.Deeds.{at_rest}
 use Rattle.schedd_steps.specs.Counting.{bytes_after, with_counts}
 use Rattle.schedd_steps.proofs.UnfinishedDone.{back_too_large, back_with}

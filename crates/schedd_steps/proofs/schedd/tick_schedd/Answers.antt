@@ -1,7 +1,7 @@
 use Rattle.std.proofs.Common.{rules, List, ap, ◌∙◌, subst, sym}
 use Rattle.claim_id.specs.declared.numbers.JobId.{JobId}
-use Rattle.schedd_core.specs.declared.prepared.PreparedSchedd.{PreparedSchedd}
-use Rattle.schedd_core.specs.PreparedSchedds.{schedd_after}
+use Rattle.schedd_state.specs.declared.prepared.PreparedSchedd.{PreparedSchedd}
+use Rattle.schedd_state.specs.PreparedSchedds.{schedd_after}
 use Rattle.schedd_core.specs.Ticks.{IsTicked}
 use Rattle.pool_moves.specs.Deeds.{schedd_acts}
 use Rattle.schedd_steps.proofs.TooLarge.{ticks_too_large}

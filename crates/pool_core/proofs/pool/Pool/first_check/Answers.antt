@@ -1,7 +1,7 @@
 use Rattle.std.proofs.Common.{◌≡◌, true, subst}
 use Rattle.pool_state.specs.declared.state.PoolState.{PoolState}
 use Rattle.pool_state.specs.Readings.{is_schedd_up}
-use Rattle.schedd_core.specs.DueChecks.{IsFirstDue}
+use Rattle.schedd_state.specs.DueChecks.{IsFirstDue}
 use Rattle.pool_core.proofs.pool.Pool.first_check.Goals as goal
 
 pub returns-clause-first : goal.returns-clause-first

@@ -4,7 +4,7 @@ use Rattle.claim_id.specs.declared.numbers.ClaimId.{ClaimId}
 use Rattle.pool_moves.specs.Deeds.{at_rest}
 use Rattle.pool_state.specs.declared.state.PoolState.{PoolState}
 use Rattle.pool_state.specs.PoolViews.{IsViewOf}
-use Rattle.schedd_core.specs.Reopening.{IsReader}
+use Rattle.schedd_state.specs.Reopening.{IsReader}
 use Rattle.pool_view.specs.Safe.{Safe}
 use Rattle.pool_view.specs.Views.{pool_of}
 use Rattle.pool_core.proofs.Keeping.{view_safe}

@@ -1,11 +1,11 @@
 use Rattle.std.proofs.Common.{◌≡◌, ℕ, Option, List, ◌++◌, ap, ◌∙◌}
 use Rattle.claim_id.specs.declared.numbers.JobId.{JobId}
-use Rattle.schedd_core.specs.PreparedSchedds.{schedd_after}
+use Rattle.schedd_state.specs.PreparedSchedds.{schedd_after}
 use Rattle.pool_mail.specs.declared.mail.Mail.{Mail}
 use Rattle.pool_pending.specs.declared.pending.Pending.{Pending}
 use Rattle.pool_tables.specs.MailLists.{MailsValue}
-use Rattle.schedd_core.specs.declared.answer.ScheddStep.{ScheddStep}
-use Rattle.schedd_core.specs.Schedds.{ScheddValue}
+use Rattle.schedd_state.specs.declared.answer.ScheddStep.{ScheddStep}
+use Rattle.schedd_state.specs.Schedds.{ScheddValue}
 use Rattle.pool_moves.specs.Answers.{pending_by}
 use Rattle.pool_moves.specs.Deeds.{posts, rested}
 use Rattle.pool_steps.proofs.Posting.{posted_all}

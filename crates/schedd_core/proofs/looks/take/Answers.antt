@@ -1,5 +1,0 @@
-use Rattle.schedd_core.proofs.LooksKept.{taken}
-use Rattle.schedd_core.proofs.looks.take.Goals as goal
-
-pub returns : goal.returns
-returns c = taken c.args.time.0 c.args.time.1 c.args.times.now c.put.new.self c.put.ensures.entries

@@ -1,6 +1,0 @@
--- The copy so far is a prefix of the list.
-use Rattle.std.proofs.Common.{◌≡◌, take}
-use Rattle.schedd_core.proofs.schedd.copy_items.Given as goal
-
-abbrev pub invariant-loop-item : goal.invariant-loop-item
-invariant-loop-item g l = l.list.items ≡ take l.item-index l.items
