@@ -14,10 +14,11 @@ use Rattle.pool_outer.specs.declared.gate.Daemon.{Daemon}
 use Rattle.pool_outer.specs.declared.gate.Daemon.TheVariants.{Schedd, Startd, Matchmaker}
 use Rattle.pool_pending.specs.declared.pending.Pending.{Pending}
 use Rattle.pool_pending.specs.Receipts.{IsItemRefusal, IsKeptRefusal, IsReceiptRefusal, still_pending}
-use Rattle.pool_state.specs.declared.refusal.TheConstants.{MAX_EVENTS}
+use Rattle.pool_refusals.specs.Judging.{IsSomeLive, judged_in, nothing_given}
+use Rattle.pool_refusals.specs.Refusals.{IsAdRefusal, IsAdRefusalBy, IsEventRefusal, IsIdleRefusal, IsNone, IsRefusal, IsReturnRefusal, IsUnquietRefusal, Refusal, Then, Unless, busy_refusal, check_refusal, claim_left, closed_refusal, down_left, ended_refusal, events_refusal, first_of, first_slot, is_over, jobs_refusal, matchmaker_refusal, moved, not_quiet, order_left, order_refusal, pending_left, receive_refusal, run_left, run_refusal, schedd_refusal, stray_refusal, submit_refusal, tick_refusal, under_left, unless_due, unquiet_refusal}
+use Rattle.pool_refusals.specs.declared.refusal.TheConstants.{MAX_EVENTS}
 use Rattle.pool_state.specs.declared.state.PoolState.{PoolState}
-use Rattle.pool_state.specs.Judging.{IsSomeLive, judged_in, nothing_given}
-use Rattle.pool_state.specs.Refusals.{IsAdRefusal, IsAdRefusalBy, IsEventRefusal, IsIdleRefusal, IsNone, IsRefusal, IsReturnRefusal, IsUnquietRefusal, Refusal, Then, Unless, busy_refusal, check_refusal, claim_left, closed_refusal, down_left, ended_refusal, events_refusal, first_of, first_slot, is_over, is_startd_due, jobs_refusal, matchmaker_refusal, moved, not_quiet, order_left, order_refusal, pending_left, receive_refusal, run_left, run_refusal, schedd_refusal, stray_refusal, submit_refusal, tick_refusal, under_left, unless_due, unquiet_refusal}
+use Rattle.pool_state.specs.Readings.{is_startd_due}
 use Rattle.pool_tables.specs.DaemonTables.{boot_refusal, crash_refusal, crash_refusal_at, daemon_refusal, first_down, reopen_refusal, reopen_refusal_at, same_daemon, daemon_state, state_refusal}
 use Rattle.pool_tables.specs.MailLists.{MailsValue, again, mail_refusal, may_receive, sent_refusal}
 use Rattle.pool_tables.specs.OrderTables.{is_due_for, is_open}

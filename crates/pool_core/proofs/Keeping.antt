@@ -24,9 +24,9 @@ use Rattle.pool_safety.specs.Histories.{Accepts, HasView, LaunchesRun, MovesView
 use Rattle.pool_safety.specs.Kept.{GoesOn}
 use Rattle.pool_safety.specs.Parts.{parts_of}
 use Rattle.pool_safety.specs.Steps.{IsStepOf}
+use Rattle.pool_refusals.specs.Refusals.{IsRefusal}
 use Rattle.pool_state.specs.Openings.{CanOpen, IsOpenedBy}
 use Rattle.pool_state.specs.PoolViews.{IsViewOf}
-use Rattle.pool_state.specs.Refusals.{IsRefusal}
 use Rattle.pool_state.specs.declared.opening.Opening.{Opening}
 use Rattle.pool_state.specs.declared.state.PoolState.{PoolState}
 use Rattle.pool_tables.specs.declared.refusal.StepError.{StepError}

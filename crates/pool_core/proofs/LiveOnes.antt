@@ -3,8 +3,8 @@ use Rattle.std.proofs.Common.{◌+◌, ◌<◌, ◌≤◌, length, get_or, drop,
 use Rattle.std.proofs.lemmas.List.{at_drop_more, drop_all}
 use Rattle.ad_eval.specs.Judgement.{Judgement}
 use Rattle.pool_mail.specs.declared.matching.Match.{Match}
+use Rattle.pool_refusals.specs.Judging.{IsLive}
 use Rattle.pool_state.specs.declared.state.PoolState.{PoolState}
-use Rattle.pool_state.specs.Judging.{IsLive}
 use Rattle.pool_event.specs.declared.answer.Stepped.{Stepped}
 use Rattle.pool_moves.specs.Deeds.{at_rest}
 use Rattle.pool_moves.specs.Happens.{AreLive, ArePassed}

@@ -2,8 +2,8 @@
 use Rattle.std.proofs.Common.{◌≡◌, ◌≢◌, inl, inr, Some, None, Result, Ok, Err, IfErr, OnOk, refl, ap, sym, subst}
 use Rattle.pool_event.specs.declared.answer.Stepped.{Stepped}
 use Rattle.pool_event.specs.declared.event.Event.{Event}
+use Rattle.pool_refusals.specs.Refusals.{IsRefusal}
 use Rattle.pool_state.specs.declared.state.PoolState.{PoolState}
-use Rattle.pool_state.specs.Refusals.{IsRefusal}
 use Rattle.pool_tables.specs.declared.refusal.StepError.{StepError}
 use Rattle.pool_tables.specs.declared.refusal.StepError.TheVariants as error
 use Rattle.pool_moves.specs.Deeds.{at_rest}

@@ -10,13 +10,13 @@ use Rattle.pool_mail.specs.declared.mail.Mail.{Mail}
 use Rattle.pool_mail.specs.declared.matching.Match.{Match}
 use Rattle.pool_outer.specs.declared.gate.Daemon.{Daemon}
 use Rattle.pool_outer.specs.declared.gate.Daemon.TheVariants.{Schedd, Startd, Matchmaker}
+use Rattle.pool_refusals.specs.Judging.{IsFairOf, IsLive, IsSomeLive, judged_in}
+use Rattle.pool_refusals.specs.Refusals.{IsAdRefusal, IsAdRefusalBy, IsEventRefusal, IsRefusal, Refusal, Then, closed_refusal, events_refusal, first_of, matchmaker_refusal, receive_refusal}
 use Rattle.pool_state.specs.declared.opening.Opening.{Opening}
 use Rattle.pool_state.specs.declared.state.PoolState.{PoolState}
-use Rattle.pool_state.specs.Judging.{IsFairOf, IsLive, IsSomeLive, judged_in}
 use Rattle.pool_state.specs.Openings.{IsOpenedBy}
 use Rattle.pool_state.specs.PoolViews.{IsViewOf}
 use Rattle.pool_state.specs.Readings.{IsDue}
-use Rattle.pool_state.specs.Refusals.{IsAdRefusal, IsAdRefusalBy, IsEventRefusal, IsRefusal, Refusal, Then, closed_refusal, events_refusal, first_of, matchmaker_refusal, receive_refusal}
 use Rattle.pool_tables.specs.declared.sent.Sent.{Sent}
 use Rattle.pool_view.specs.declared.view.View.{View}
 use Rattle.pool_moves.specs.Deeds.{at_rest}

@@ -3,8 +3,8 @@ use Rattle.std.specs.Prelude.{Some, None}
 use Rattle.pool_event.specs.declared.event.Event.{Event}
 use Rattle.pool_moves.specs.Happens.{Reacts}
 use Rattle.pool_moves.specs.Limits.{IsTooLarge}
+use Rattle.pool_refusals.specs.Refusals.{IsRefusal}
 use Rattle.pool_state.specs.declared.state.PoolState.{PoolState}
-use Rattle.pool_state.specs.Refusals.{IsRefusal}
 use Rattle.pool_tables.specs.declared.refusal.StepError.{StepError}
 use Rattle.pool_tables.specs.declared.refusal.StepError.TheVariants as error
 

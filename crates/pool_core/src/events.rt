@@ -6,7 +6,7 @@ ghost use Rattle.pool_core.specs.Pushed.{IsPushed};
 ghost use Rattle.pool_moves.specs.Deeds.{at_rest};
 ghost use Rattle.pool_moves.specs.Happens.{AreLive, ArePassed, IsSubmitted, submission_of};
 ghost use Rattle.pool_moves.specs.Limits.{IsLimit, IsTooLarge, IsWithin};
-ghost use Rattle.pool_state.specs.Judging.{IsLive};
+ghost use Rattle.pool_refusals.specs.Judging.{IsLive};
 ghost use Rattle.pool_tables.specs.declared.refusal.StepError.TheVariants as error;
 
 use ad_eval::Judged;
@@ -15,6 +15,7 @@ use ad_value::Memory;
 use pool_event::Stepped;
 use pool_mail::{Match, MatchList};
 use pool_pending::Unfinished;
+use pool_refusals::is_live;
 use pool_state::PoolState;
 use pool_steps::{Begun, limited, nothing_asked, pass_matches};
 use pool_submission::submission_tx;
@@ -113,7 +114,7 @@ fn push_live(
     ensures { OnOk result (IsPushed (IsLive state.now found.now judged.now reading) found.now
         live.old live.new) }
 {
-    if state.is_live(found, judged, reading) {
+    if is_live(state, found, judged, reading) {
         live.push(*found)?;
     }
     Ok(())

@@ -6,7 +6,7 @@ ghost use Rattle.pool_limits.specs.Sizes.{event_count};
 ghost use Rattle.pool_moves.specs.Deeds.{at_rest};
 ghost use Rattle.pool_moves.specs.Happens.{Happens, Reacts, counts_brought, latest_after};
 ghost use Rattle.pool_moves.specs.Limits.{IsLimit, IsTooLarge, IsWithin};
-ghost use Rattle.pool_state.specs.Refusals.{IsRefusal};
+ghost use Rattle.pool_refusals.specs.Refusals.{IsRefusal};
 ghost use Rattle.pool_tables.specs.declared.refusal.StepError.TheVariants as error;
 
 use crate::daemons::{crash, receive, reopen, tick};
@@ -14,6 +14,7 @@ use crate::events::{close, match_all, submit};
 use ad_value::Memory;
 use pool_event::{Event, Stepped};
 use pool_limits::event_size;
+use pool_refusals::refusal_of;
 use pool_state::PoolState;
 use pool_steps::{end_run, give_order};
 use pool_tables::StepError;
@@ -34,7 +35,7 @@ pub(crate) fn step(
         (λ e. e ≢ error.Memory → IsRefused event.now (at_rest state.old) e) }
     ensures same { OnErr result (at_rest state.new ≡ at_rest state.old) }
 {
-    if let Some(error) = state.refusal(alloc, event)? {
+    if let Some(error) = refusal_of(state, alloc, event)? {
         return Err(error);
     }
     react(alloc, state, event)

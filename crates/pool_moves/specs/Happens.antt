@@ -16,8 +16,8 @@ use Rattle.pool_outer.specs.declared.gate.Daemon.TheVariants.{Schedd, Startd, Ma
 use Rattle.pool_past.specs.Clusters.{IsNextCluster}
 use Rattle.pool_pending.specs.declared.pending.Pending.{Pending}
 use Rattle.pool_pending.specs.declared.pending.Unfinished.TheVariants.{Submission}
+use Rattle.pool_refusals.specs.Judging.{IsLive}
 use Rattle.pool_state.specs.declared.state.PoolState.{PoolState}
-use Rattle.pool_state.specs.Judging.{IsLive}
 use Rattle.pool_state.specs.PoolJobs.{has_job}
 use Rattle.pool_state.specs.Readings.{boot_of}
 use Rattle.pool_submission.specs.Submissions.{submission_ops}

@@ -20,8 +20,8 @@ use Rattle.pool_event.specs.Events.{holder_of}
 use Rattle.pool_moves.specs.Happens.{Reacts, counts_brought}
 use Rattle.pool_outer.specs.declared.gate.Daemon.{Daemon}
 use Rattle.pool_outer.specs.declared.gate.Daemon.TheVariants.{Schedd, Startd, Matchmaker}
+use Rattle.pool_refusals.specs.Refusals.{IsRefusal}
 use Rattle.pool_state.specs.declared.state.PoolState.{PoolState}
-use Rattle.pool_state.specs.Refusals.{IsRefusal}
 use Rattle.startd_core.specs.Startds.{StartdValue, unmoved}
 use Rattle.pool_passes.specs.Standing.{LogStands, RunsStand, Stands, logged_before}
 use Rattle.pool_passes.proofs.Answered.{kind_of}

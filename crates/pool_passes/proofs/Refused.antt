@@ -5,8 +5,8 @@ use Rattle.std.proofs.lemmas.Option.{none-some}
 use Rattle.pool_event.specs.declared.event.Event.{Event}
 use Rattle.pool_pending.specs.declared.pending.Pending.{Pending}
 use Rattle.pool_pending.specs.Receipts.{IsKeptRefusal, IsReceiptRefusal, still_pending}
+use Rattle.pool_refusals.specs.Refusals.{IsEventRefusal, IsRefusal, Refusal, Then, closed_refusal, events_refusal, first_of}
 use Rattle.pool_state.specs.declared.state.PoolState.{PoolState}
-use Rattle.pool_state.specs.Refusals.{IsEventRefusal, IsRefusal, Refusal, Then, closed_refusal, events_refusal, first_of}
 use Rattle.queue_tx.specs.Operations.{Operation}
 use Rattle.receipt_roll.specs.Values.{ReceiptValue}
 

@@ -26,9 +26,9 @@ use Rattle.pool_pending.specs.declared.pending.Pending.{Pending}
 use Rattle.pool_pending.specs.declared.pending.Unfinished.{Unfinished}
 use Rattle.pool_pending.specs.declared.pending.Unfinished.TheVariants.{Submission, Plan}
 use Rattle.pool_pending.specs.Receipts.{IsReceiptRefusal, still_pending}
+use Rattle.pool_refusals.specs.Refusals.{IsAdRefusal, IsEventRefusal, IsReturnRefusal, Refusal, receive_refusal, schedd_refusal, tick_refusal, unless_due}
 use Rattle.pool_state.specs.declared.state.PoolState.{PoolState}
 use Rattle.pool_state.specs.Readings.{boot_of}
-use Rattle.pool_state.specs.Refusals.{IsAdRefusal, IsEventRefusal, IsReturnRefusal, Refusal, receive_refusal, schedd_refusal, tick_refusal, unless_due}
 use Rattle.pool_tables.specs.declared.sent.Sent.{Sent}
 use Rattle.pool_tables.specs.DaemonTables.{daemon_refusal, reopen_refusal, daemon_state}
 use Rattle.pool_tables.specs.MailLists.{mail_refusal}

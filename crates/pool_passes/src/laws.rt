@@ -15,8 +15,8 @@ ghost use Rattle.pool_moves.specs.Given.{IsGiven};
 ghost use Rattle.pool_moves.specs.Happens.{Reacts};
 ghost use Rattle.pool_outer.specs.declared.gate.Daemon.{Daemon};
 ghost use Rattle.pool_passes.specs.Standing.{HasRoll, Stands, end_mark_of, logged_before};
+ghost use Rattle.pool_refusals.specs.Refusals.{IsRefusal};
 ghost use Rattle.pool_state.specs.declared.state.PoolState.{PoolState};
-ghost use Rattle.pool_state.specs.Refusals.{IsRefusal};
 ghost use Rattle.pool_tables.specs.DaemonTables.{daemon_state};
 ghost use Rattle.schedd_state.specs.Reopening.{IsReader};
 

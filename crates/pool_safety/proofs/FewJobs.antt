@@ -13,11 +13,11 @@ use Rattle.pool_pending.specs.Plans.{leaving_job}
 use Rattle.pool_pending.specs.declared.pending.Pending.{Pending}
 use Rattle.pool_pending.specs.declared.pending.Unfinished.{Unfinished}
 use Rattle.pool_pending.specs.declared.pending.Unfinished.TheVariants.{Submission, Plan}
+use Rattle.pool_refusals.specs.Refusals.{IsRefusal, is_over, jobs_refusal, schedd_refusal, submit_refusal}
 use Rattle.pool_state.specs.Openings.{CanOpen, IsOpenedBy}
-use Rattle.pool_state.specs.Refusals.{IsRefusal, is_over, jobs_refusal, schedd_refusal, submit_refusal}
 use Rattle.pool_state.specs.declared.opening.Opening.{Opening}
-use Rattle.pool_state.specs.declared.refusal.TheConstants.{MAX_JOBS}
 use Rattle.pool_state.specs.declared.state.PoolState.{PoolState}
+use Rattle.pool_state.specs.declared.opening.TheConstants.{MAX_JOBS}
 use Rattle.pool_tables.specs.OrderTables.{is_due_for}
 use Rattle.pool_tables.specs.declared.refusal.StepError.TheVariants as error
 use Rattle.pool_tables.specs.declared.sent.Sent.{Sent}

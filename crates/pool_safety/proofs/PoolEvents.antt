@@ -14,8 +14,8 @@ use Rattle.pool_moves.specs.Happens.{Happens, Reacts, counts_brought, counts_eve
 use Rattle.pool_outer.specs.declared.gate.Daemon.{Daemon}
 use Rattle.pool_outer.specs.declared.gate.Daemon.TheVariants.{Schedd, Startd, Matchmaker}
 use Rattle.pool_protocol.specs.Protocol.{Protocol}
-use Rattle.pool_state.specs.Judging.{judged_in}
-use Rattle.pool_state.specs.Refusals.{IsAdRefusal, IsAdRefusalBy, IsEventRefusal, IsReceiveRefusal, IsRefusal, Refusal, Then, closed_refusal, events_refusal, first_of, receive_refusal}
+use Rattle.pool_refusals.specs.Judging.{judged_in}
+use Rattle.pool_refusals.specs.Refusals.{IsAdRefusal, IsAdRefusalBy, IsEventRefusal, IsReceiveRefusal, IsRefusal, Refusal, Then, closed_refusal, events_refusal, first_of, receive_refusal}
 use Rattle.pool_state.specs.declared.state.Counts.{Counts}
 use Rattle.pool_state.specs.declared.state.PoolState.{PoolState}
 use Rattle.pool_tables.specs.declared.sent.Sent.{Sent}

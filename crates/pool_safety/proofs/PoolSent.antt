@@ -29,7 +29,7 @@ use Rattle.pool_moves.specs.Masters.{gives, mails_of_matches}
 use Rattle.pool_safety.specs.Parts.{mail_of, parts_of}
 use Rattle.pool_outer.specs.declared.gate.Daemon.TheVariants.{Schedd}
 use Rattle.pool_protocol.specs.Protocol.{Protocol}
-use Rattle.pool_state.specs.Judging.{IsLive}
+use Rattle.pool_refusals.specs.Judging.{IsLive}
 use Rattle.pool_state.specs.declared.state.PoolState.{PoolState}
 use Rattle.pool_tables.specs.MailLists.{received_once, sent_now, with_received}
 use Rattle.pool_tables.specs.OrderTables.{given_by, is_due_for, order_mail}

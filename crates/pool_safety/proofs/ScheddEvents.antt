@@ -13,10 +13,10 @@ use Rattle.pool_outer.specs.declared.gate.Daemon.TheVariants.{Schedd}
 use Rattle.pool_past.specs.declared.finished.FinishedJob.{FinishedJob}
 use Rattle.pool_protocol.specs.Protocol.{Protocol}
 use Rattle.pool_protocol.specs.ProtocolMove.{ProtocolMove, protocol_after_all}
+use Rattle.pool_refusals.specs.Refusals.{IsAdRefusal, IsEventRefusal, receive_refusal}
 use Rattle.pool_state.specs.declared.state.PoolState.{PoolState}
 use Rattle.pool_view.specs.AbstractStep.{AbstractStep, Order, Time}
 use Rattle.pool_state.specs.PoolJobs.{has_job, has_job_by}
-use Rattle.pool_state.specs.Refusals.{IsAdRefusal, IsEventRefusal, receive_refusal}
 use Rattle.pool_tables.specs.declared.sent.Sent.{Sent}
 use Rattle.queue_tx.specs.declared.key.Key.{Key}
 use Rattle.queue_tx.specs.declared.key.Key.TheVariants.{Proc}

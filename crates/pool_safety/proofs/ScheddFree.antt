@@ -7,9 +7,9 @@ use Rattle.pool_limits.specs.declared.size.TheConstants.{MAX_BYTES}
 use Rattle.pool_past.specs.Clusters.{IsNextCluster, is_used}
 use Rattle.pool_past.specs.declared.clusters.TheConstants.{LAST_CLUSTER}
 use Rattle.pool_protocol.specs.Protocol.{Protocol}
-use Rattle.pool_state.specs.declared.refusal.TheConstants.{MAX_EVENTS}
+use Rattle.pool_refusals.specs.Refusals.{IsEventRefusal, IsRefusal, closed_refusal, events_refusal, first_of}
+use Rattle.pool_refusals.specs.declared.refusal.TheConstants.{MAX_EVENTS}
 use Rattle.pool_state.specs.declared.state.PoolState.{PoolState}
-use Rattle.pool_state.specs.Refusals.{IsEventRefusal, IsRefusal, closed_refusal, events_refusal, first_of}
 use Rattle.pool_tables.specs.declared.refusal.StepError.{StepError}
 use Rattle.pool_tables.specs.declared.refusal.StepError.TheVariants as error
 use Rattle.pool_moves.specs.Given.{IsGiven}

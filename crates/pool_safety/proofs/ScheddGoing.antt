@@ -6,9 +6,9 @@ use Rattle.pool_pending.specs.declared.pending.Pending.{Pending}
 use Rattle.pool_pending.specs.Receipts.{still_pending}
 use Rattle.pool_protocol.specs.Protocol.{Protocol}
 use Rattle.pool_protocol.specs.ProtocolMove.{ProtocolMove, PassTime, all_steps, protocol_after_all}
+use Rattle.pool_refusals.specs.Refusals.{Refusal, check_refusal, first_of, jobs_refusal, receive_refusal, schedd_refusal, submit_refusal, tick_refusal, unless_due}
 use Rattle.pool_state.specs.declared.state.PoolState.{PoolState}
 use Rattle.pool_outer.specs.declared.gate.Daemon.TheVariants.{Schedd}
-use Rattle.pool_state.specs.Refusals.{Refusal, check_refusal, first_of, jobs_refusal, receive_refusal, schedd_refusal, submit_refusal, tick_refusal, unless_due}
 use Rattle.pool_tables.specs.DaemonTables.{daemon_refusal}
 use Rattle.pool_tables.specs.MailLists.{mail_refusal, with_received}
 use Rattle.schedd_state.specs.DueChecks.{is_check_due, IsPassed}

@@ -9,9 +9,9 @@ use Rattle.pool_mail.specs.declared.end.Ending.{Ending}
 use Rattle.pool_outer.specs.declared.gate.Daemon.TheVariants.{Startd}
 use Rattle.pool_protocol.specs.Protocol.{Protocol}
 use Rattle.pool_protocol.specs.ProtocolMove.{PassTime, protocol_after}
+use Rattle.pool_refusals.specs.Refusals.{IsAdRefusal, IsEventRefusal, IsReturnRefusal, busy_refusal, receive_refusal}
 use Rattle.pool_state.specs.declared.state.PoolState.{PoolState}
 use Rattle.pool_state.specs.Readings.{boot_of}
-use Rattle.pool_state.specs.Refusals.{IsAdRefusal, IsEventRefusal, IsReturnRefusal, busy_refusal, receive_refusal}
 use Rattle.pool_tables.specs.DaemonTables.{daemon_refusal, reopen_refusal, reopen_refusal_at, daemon_state}
 use Rattle.pool_tables.specs.MailLists.{mail_refusal}
 use Rattle.pool_tables.specs.declared.refusal.StepError.TheVariants as error

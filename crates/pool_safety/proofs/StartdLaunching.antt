@@ -8,8 +8,8 @@ use Rattle.pool_event.specs.declared.event.Event.TheVariants as event
 use Rattle.pool_outer.specs.declared.gate.Daemon.TheVariants.{Startd}
 use Rattle.pool_protocol.specs.Protocol.{Protocol}
 use Rattle.pool_protocol.specs.ProtocolMove.{ProtocolMove, PassTime, protocol_after_all}
+use Rattle.pool_refusals.specs.Refusals.{IsEventRefusal}
 use Rattle.pool_state.specs.declared.state.PoolState.{PoolState}
-use Rattle.pool_state.specs.Refusals.{IsEventRefusal}
 use Rattle.pool_view.specs.AbstractPool.{AbstractPool, SameView}
 use Rattle.pool_view.specs.Ads.{core_of}
 use Rattle.pool_view.specs.Safe.{IsMatched}

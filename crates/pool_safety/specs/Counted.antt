@@ -5,8 +5,8 @@ use Rattle.pool_limits.specs.Sizes.{event_count, mail_count, queue_count}
 use Rattle.pool_moves.specs.Logging.{jobs_after}
 use Rattle.pool_pending.specs.declared.pending.Pending.{Pending}
 use Rattle.pool_state.specs.Openings.{IsJobCount}
-use Rattle.pool_state.specs.declared.refusal.TheConstants.{MAX_JOBS}
 use Rattle.pool_state.specs.declared.state.PoolState.{PoolState}
+use Rattle.pool_state.specs.declared.opening.TheConstants.{MAX_JOBS}
 use Rattle.pool_tables.specs.declared.sent.Sent.{Sent}
 use Rattle.pool_safety.specs.Histories.{Step}
 

@@ -11,8 +11,8 @@ use Rattle.pool_links.specs.Shown.{ShowsPool}
 use Rattle.pool_moves.specs.Given.{IsGiven}
 use Rattle.pool_moves.specs.Happens.{Reacts, latest_after}
 use Rattle.pool_safety.specs.Parts.{parts_of}
+use Rattle.pool_refusals.specs.Refusals.{IsRefusal}
 use Rattle.pool_state.specs.Openings.{CanOpen, IsOpenedBy}
-use Rattle.pool_state.specs.Refusals.{IsRefusal}
 use Rattle.pool_state.specs.declared.opening.Opening.{Opening}
 use Rattle.pool_state.specs.declared.state.PoolState.{PoolState}
 use Rattle.pool_view.specs.AbstractPool.{AbstractPool, IsIn}

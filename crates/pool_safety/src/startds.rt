@@ -12,7 +12,7 @@ ghost use Rattle.pool_moves.specs.Happens.{Happens};
 ghost use Rattle.pool_safety.specs.Parts.{parts_of};
 ghost use Rattle.pool_outer.specs.declared.gate.Daemon.TheVariants.{Startd};
 ghost use Rattle.pool_protocol.specs.Protocol.{Protocol};
-ghost use Rattle.pool_state.specs.Refusals.{IsEventRefusal};
+ghost use Rattle.pool_refusals.specs.Refusals.{IsEventRefusal};
 ghost use Rattle.pool_state.specs.declared.state.PoolState.{PoolState};
 ghost use Rattle.pool_view.specs.AbstractPool.{AbstractPool};
 ghost use Rattle.queue_tx.specs.Operations.{Operation};

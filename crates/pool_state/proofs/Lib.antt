@@ -1,2 +1,1 @@
-mod LiveMatches
 mod Opened

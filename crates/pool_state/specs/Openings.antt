@@ -11,8 +11,7 @@ use Rattle.pool_state.specs.declared.opening.Machinery.{Machinery}
 use Rattle.pool_state.specs.declared.opening.Opening.{Opening}
 use Rattle.pool_state.specs.declared.opening.QueueParts.{QueueParts}
 use Rattle.pool_state.specs.declared.opening.Tables.{Tables}
-use Rattle.pool_state.specs.declared.opening.TheConstants.{LAST_POOL_BOOT, MAX_MACHINES, MAX_SLOTS}
-use Rattle.pool_state.specs.declared.refusal.TheConstants.{MAX_JOBS}
+use Rattle.pool_state.specs.declared.opening.TheConstants.{LAST_POOL_BOOT, MAX_JOBS, MAX_MACHINES, MAX_SLOTS}
 use Rattle.pool_state.specs.declared.state.PoolState.{PoolState}
 use Rattle.pool_tables.specs.DaemonTables.{first_daemons}
 use Rattle.pool_tables.specs.MailLists.{MailsValue}

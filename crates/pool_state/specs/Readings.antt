@@ -10,7 +10,6 @@ use Rattle.pool_outer.specs.declared.gate.Daemon.{Daemon}
 use Rattle.pool_outer.specs.declared.gate.Daemon.TheVariants.{Schedd, Startd, Matchmaker}
 use Rattle.pool_state.specs.declared.state.PoolState.{PoolState}
 use Rattle.pool_state.specs.PoolJobs.{is_engaged}
-use Rattle.pool_state.specs.Refusals.{is_startd_due}
 use Rattle.pool_tables.specs.declared.states.DaemonState.{DaemonState}
 use Rattle.pool_tables.specs.DaemonTables.{is_up, daemon_state}
 use Rattle.queue_tx.specs.declared.kind.JobKind.TheVariants.{Idle}
@@ -18,6 +17,7 @@ use Rattle.queue_tx.specs.Queues.{KeyedAds}
 use Rattle.schedd_state.specs.Schedds.{ScheddValue}
 use Rattle.schedd_state.specs.DueChecks.{is_check_due}
 use Rattle.schedd_state.specs.DueLines.{is_due}
+use Rattle.startd_core.specs.DueTicks as startd
 use Rattle.startd_core.specs.DueTicks.{hangs_on_start}
 use Rattle.startd_core.specs.Startds.{StartdValue}
 use Rattle.startd_slot.specs.declared.slot.Slot.{Slot}
@@ -26,6 +26,10 @@ use Rattle.startd_slot.specs.declared.slot.Slot.{Slot}
 abbrev pub boot_of : Option DaemonState → ℕ
 boot_of None = 0
 boot_of (Some s) = s.boot
+
+abbrev pub is_startd_due : Option StartdValue → ℕ → Bool
+is_startd_due None reading = false
+is_startd_due (Some v) reading = startd.is_due v reading
 
 -- a look at the periodic expressions of some job is due
 abbrev pub IsSomeCheckDue : ScheddValue → KeyedAds → ℕ → Type 0

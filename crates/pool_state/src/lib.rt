@@ -1,17 +1,14 @@
-//! The pool as a value: what its daemons, mails and jobs are, how it opens, what is read of it, and
-//! why it doesn't accept an event.
+//! The pool as a value: what its daemons, mails and jobs are, how it opens, what is read of it,
+//! which abstract pool it stands for, and a copy of it.
 #![tactic(auto)]
 
-mod asked;
 mod copy;
-mod judging;
 mod opening;
-mod quiet;
 mod reading;
-mod refusal;
 mod state;
 mod view;
 
-pub use opening::{LAST_POOL_BOOT, MAX_MACHINES, MAX_SLOTS, Opening, count_jobs, count_machines};
-pub use refusal::{MAX_EVENTS, MAX_JOBS};
+pub use opening::{
+    LAST_POOL_BOOT, MAX_JOBS, MAX_MACHINES, MAX_SLOTS, Opening, count_jobs, count_machines,
+};
 pub use state::{Counts, PoolState};

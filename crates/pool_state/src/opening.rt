@@ -33,6 +33,9 @@ pub const MAX_MACHINES: usize = 64;
 /// How many slots a pool may have.
 pub const MAX_SLOTS: usize = 256;
 
+/// How many jobs a queue may have.
+pub const MAX_JOBS: u64 = 10_000;
+
 /// The last boot of a pool.
 pub const LAST_POOL_BOOT: u32 = 2_147_483_647;
 

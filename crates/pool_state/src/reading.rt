@@ -4,8 +4,7 @@ ghost use Rattle.std.specs.Prelude.{◌≡◌, ◌≢◌, ◌⊎◌, ◌++◌, �
 ghost use Rattle.pool_machines.specs.Slots.{slot_at};
 ghost use Rattle.pool_past.specs.Clusters.{IsNextCluster};
 ghost use Rattle.pool_state.specs.PoolJobs.{has_job, is_engaged};
-ghost use Rattle.pool_state.specs.Readings.{AreWanted, IsCheckDue, IsDue, IsDueUp, IsLook, IsSomeCheckDue, ad_of_slot, boot_of, hangs_on_slot, hangs_at, is_schedd_up};
-ghost use Rattle.pool_state.specs.Refusals.{is_startd_due};
+ghost use Rattle.pool_state.specs.Readings.{AreWanted, IsCheckDue, IsDue, IsDueUp, IsLook, IsSomeCheckDue, ad_of_slot, boot_of, hangs_on_slot, hangs_at, is_schedd_up, is_startd_due};
 ghost use Rattle.pool_tables.specs.declared.refusal.MailError.TheVariants as error;
 ghost use Rattle.pool_tables.specs.DaemonTables.{daemon_state};
 ghost use Rattle.pool_tables.specs.MailLists.{IsMailTo, IsNextMail, IsOfPool, mail_error};
@@ -98,13 +97,8 @@ impl PoolState {
         }
     }
 
-    /// Whether a tick of a machine's startd is due.
-    pub(crate) fn is_startd_due(
-        &self,
-        alloc: Global,
-        machine: u16,
-        reading: u64,
-    ) -> Result<bool, Memory>
+    /// Whether a tick of a machine's startd is due. Computes as the startd's `due`.
+    pub fn is_startd_due(&self, alloc: Global, machine: u16, reading: u64) -> Result<bool, Memory>
         ensures due { IfOk result
             (λ due. due ≡ is_startd_due (slice_get self.now.machines machine) reading) }
         ensures refused { OnErr result
@@ -137,7 +131,7 @@ impl PoolState {
 
     /// Whether a claim that is asked for or ready names the job; a schedd that is down has none.
     /// Computes in O(claims).
-    pub(crate) fn is_engaged(&self, job: JobId) -> bool
+    pub fn is_engaged(&self, job: JobId) -> bool
         ensures { result ≡ is_engaged job self.now }
     {
         self.daemons.is_up(Daemon::Schedd) && self.schedd.engages(job)

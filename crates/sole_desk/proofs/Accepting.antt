@@ -18,8 +18,8 @@ use Rattle.pool_passes.proofs.Answered.{keeps_answer, kind_of}
 use Rattle.pool_passes.proofs.GivenByMarks.{own_given}
 use Rattle.pool_passes.proofs.Passes.{own_before, own_fits, own_stands}
 use Rattle.pool_passes.proofs.Rolls.{HasSameRolls, rolls_same}
+use Rattle.pool_refusals.specs.Refusals.{IsRefusal}
 use Rattle.pool_state.specs.declared.state.PoolState.{PoolState}
-use Rattle.pool_state.specs.Refusals.{IsRefusal}
 use Rattle.pool_tables.specs.DaemonTables.{daemon_state}
 use Rattle.receipt_roll.specs.Values.{RollMark}
 use Rattle.sole_desk.specs.SolePasses.{HasHolder, HasOneMore, SolePassValue, StandsHere}

@@ -5,7 +5,7 @@ ghost use Rattle.desk.specs.Passes.{Fits, is_closed, says_closed};
 ghost use Rattle.pool_moves.specs.Answers.{answered};
 ghost use Rattle.pool_moves.specs.Happens.{Reacts};
 ghost use Rattle.pool_passes.specs.Standing.{end_mark_of, logged_before};
-ghost use Rattle.pool_state.specs.Refusals.{IsRefusal};
+ghost use Rattle.pool_refusals.specs.Refusals.{IsRefusal};
 ghost use Rattle.sole_desk.specs.Answers.{IsRefusedHere};
 ghost use Rattle.sole_desk.specs.SolePasses.{CanHold, HasHolder, HasOneMore};
 

@@ -2,8 +2,8 @@
 use Rattle.std.proofs.Common.{◌≡◌, ◌↔◌, ℕ, List, [], ◌∷◌, length, refl, subst, arith}
 use Rattle.ad_eval.specs.Judgement.{Judgement}
 use Rattle.pool_mail.specs.declared.matching.Match.{Match}
+use Rattle.pool_refusals.specs.Judging.{IsSomeLive}
 use Rattle.pool_state.specs.declared.state.PoolState.{PoolState}
-use Rattle.pool_state.specs.Judging.{IsSomeLive}
 
 pub none_left : (s : PoolState) (ms : List Match) (reading : ℕ) → IsSomeLive s ms [] reading → ⊥
 none_left s [] reading h = h

@@ -1,5 +1,5 @@
 -- Why an event isn't accepted: the first cause that holds.
-use Rattle.std.specs.Prelude.{◌≡◌, ℕ, ◌+◌, ◌==◌, Bool, true, false, List, [], ◌∷◌, length, position, slice_get, nat_lt, Option, Some, None, is_some, if◌then◌else◌}
+use Rattle.std.specs.Prelude.{◌≡◌, ℕ, ◌+◌, ◌==◌, Bool, List, [], ◌∷◌, length, position, slice_get, nat_lt, Option, Some, None, is_some, if◌then◌else◌}
 use Rattle.ad_eval.specs.Judgement.{Judgement, Mismatch}
 use Rattle.ad_tree.specs.Ad.{Attributes}
 use Rattle.claim_id.specs.declared.numbers.JobId.{JobId}
@@ -17,9 +17,11 @@ use Rattle.pool_outer.specs.declared.gate.Daemon.{Daemon}
 use Rattle.pool_outer.specs.declared.gate.Daemon.TheVariants.{Schedd, Startd, Matchmaker}
 use Rattle.pool_pending.specs.declared.pending.Pending.{Pending}
 use Rattle.pool_pending.specs.Receipts.{IsKeptRefusal, IsReceiptRefusal, still_pending}
-use Rattle.pool_state.specs.declared.refusal.TheConstants.{MAX_EVENTS, MAX_JOBS}
+use Rattle.pool_refusals.specs.declared.refusal.TheConstants.{MAX_EVENTS}
+use Rattle.pool_refusals.specs.Judging.{IsFairOf, IsOfAll, IsSomeLive, judged_in, nothing_given}
+use Rattle.pool_state.specs.declared.opening.TheConstants.{MAX_JOBS}
 use Rattle.pool_state.specs.declared.state.PoolState.{PoolState}
-use Rattle.pool_state.specs.Judging.{IsFairOf, IsOfAll, IsSomeLive, judged_in, nothing_given}
+use Rattle.pool_state.specs.Readings.{is_startd_due}
 use Rattle.pool_tables.specs.DaemonTables.{crash_refusal, daemon_refusal, first_down, reopen_refusal}
 use Rattle.pool_tables.specs.MailLists.{mail_refusal}
 use Rattle.pool_tables.specs.OrderTables.{is_due_for, is_open}
@@ -33,8 +35,6 @@ use Rattle.queue_tx.specs.Operations.{Operation}
 use Rattle.receipt_roll.specs.Values.{ReceiptValue}
 use Rattle.schedd_state.specs.DueChecks.{is_check_due}
 use Rattle.schedd_state.specs.DueLines.{is_due}
-use Rattle.startd_core.specs.DueTicks as startd
-use Rattle.startd_core.specs.Startds.{StartdValue}
 
 abbrev pub Refusal : Type 0
 Refusal = Option StepError
@@ -87,10 +87,6 @@ IsLoggedRefusal boot receipt s r =
     Then (daemon_refusal Schedd boot s.daemons) (IsReceiptRefusal s.pending receipt) r
 
 -- ---- of any daemon
-abbrev pub is_startd_due : Option StartdValue → ℕ → Bool
-is_startd_due None reading = false
-is_startd_due (Some v) reading = startd.is_due v reading
-
 -- nothing is ever due of the matchmaker
 abbrev pub tick_refusal : Daemon → ℕ → ℕ → PoolState → Refusal
 tick_refusal Schedd boot reading s =

@@ -1,7 +1,8 @@
 -- Whether what was judged is what there is.
-use Rattle.std.specs.Prelude.{◌≡◌, ◌⊎◌, ℕ, Bool, true, false, ◌||◌, not, List, [], ◌∷◌, ◌++◌, Option, Some, None, is_some, slice_get, IfSome, IsSomeAnd, MatchOption}
+use Rattle.std.specs.Prelude.{◌≡◌, ◌⊎◌, ℕ, Bool, true, false, ◌&&◌, ◌||◌, not, List, [], ◌∷◌, ◌++◌, Option, Some, None, is_some, slice_get, IfSome, IsSomeAnd, MatchOption}
 use Rattle.ad_eval.specs.Judgement.{Judgement, Mismatch, IsJudgementOf, IsMismatchOf}
 use Rattle.ad_tree.specs.Ad.{Attributes}
+use Rattle.claim_id.specs.declared.numbers.ClaimId.{ClaimId}
 use Rattle.claim_id.specs.declared.numbers.JobId.{JobId}
 use Rattle.claim_id.specs.declared.numbers.SlotId.{SlotId}
 use Rattle.pool_machines.specs.Slots.{slot_ads, slot_at}
@@ -9,13 +10,17 @@ use Rattle.pool_mail.specs.Ads.{request_ad}
 use Rattle.pool_mail.specs.declared.mail.Mail.{Mail}
 use Rattle.pool_mail.specs.declared.mail.Mail.TheVariants as mail
 use Rattle.pool_mail.specs.declared.matching.Match.{Match}
+use Rattle.pool_outer.specs.declared.gate.Daemon.TheVariants.{Startd}
 use Rattle.pool_state.specs.declared.state.PoolState.{PoolState}
-use Rattle.pool_state.specs.PoolJobs.{is_engaged, is_offered}
+use Rattle.pool_state.specs.PoolJobs.{is_engaged}
+use Rattle.pool_tables.specs.DaemonTables.{is_up, daemon_state}
 use Rattle.queue_tx.specs.declared.key.Key.TheVariants.{Proc}
 use Rattle.queue_tx.specs.declared.kind.JobKind.TheVariants.{Idle}
 use Rattle.queue_tx.specs.Kinds.{kind_of}
 use Rattle.queue_tx.specs.Queues.{KeyedAds, ad_at}
 use Rattle.startd_core.specs.Startds.{StartdValue, judges}
+use Rattle.startd_slot.specs.declared.slot.Slot.{Slot}
+use Rattle.startd_slot.specs.SlotStates.{offers_claim}
 
 -- ---- a mail and its slot
 -- the ad of a mail that is judged, and the slot with whose ad it is
@@ -49,6 +54,15 @@ pub record IsFairOf (s : PoolState) (m : Mail) (ad : Attributes) (slot : SlotId)
       → nothing_given judged mismatch ≡ false
 
 -- ---- a match
+abbrev pub offers_in : Option Slot → ClaimId → Bool
+offers_in None claim = false
+offers_in (Some slot) claim = offers_claim slot.state claim
+
+-- a slot whose startd is up offers the claim
+abbrev pub is_offered : ClaimId → PoolState → Bool
+is_offered claim s = is_up (daemon_state (Startd claim.no.slot.machine) s.daemons)
+    && offers_in (slot_at claim.no.slot s.machines) claim
+
 -- the ads of a match are those that its job and its slot have, at the reading
 pub record IsLive (s : PoolState) (m : Match) (judged : Judgement) (reading : ℕ) : Type 0 where
   pub idle : IsSomeAnd (ad_at (Proc m.job) s.queue)

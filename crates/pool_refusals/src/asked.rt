@@ -3,7 +3,7 @@
 ghost use Rattle.std.specs.Prelude.{◌≡◌, ◌≢◌, ◌↔◌, ◌∷◌, ◌++◌, IsTrue, List, MatchOption};
 ghost use Rattle.ad_tree.specs.Ad.{Attributes};
 ghost use Rattle.pool_mail.specs.Ads.{request_ad};
-ghost use Rattle.pool_state.specs.Judging.{asked_ad, asked_ads};
+ghost use Rattle.pool_refusals.specs.Judging.{asked_ad, asked_ads};
 ghost use Rattle.queue_tx.specs.declared.key.Key.TheVariants.{Proc};
 ghost use Rattle.queue_tx.specs.Queues.{ad_at};
 
