@@ -1,5 +1,5 @@
 -- Which transactions were logged, by the entries of the schedd.
-use Rattle.std.specs.Prelude.{ℕ, ◌==◌, Bool, true, false, List, [], ◌∷◌, ◌++◌, Option, Some, None, if◌then◌else◌}
+use Rattle.std.specs.Prelude.{◌≡◌, ℕ, ◌==◌, Bool, true, false, List, [], ◌∷◌, ◌++◌, Option, Some, None, Ok, if◌then◌else◌}
 use Rattle.desk.specs.declared.entry.Entry.{Entry}
 use Rattle.desk.specs.declared.entry.Sort.{Sort}
 use Rattle.desk.specs.declared.entry.Sort.TheVariants.{Logged, Reopen}
@@ -8,6 +8,7 @@ use Rattle.pool_event.specs.declared.answer.Kept.TheVariants.{Append}
 use Rattle.pool_outer.specs.declared.gate.Daemon.{Daemon}
 use Rattle.pool_outer.specs.declared.gate.Daemon.TheVariants.{Schedd}
 use Rattle.queue_tx.specs.Operations.{Operation}
+use Rattle.queue_tx.specs.Queues.{KeyedAds, queue_after_all}
 
 -- a transaction that is to be logged, and its number
 abbrev pub Numbered : Type 0
@@ -50,3 +51,7 @@ log_after_all log (e ∷ es) = log_after_all (log_after log e) es
 
 abbrev pub log_of : List Entry → LogSoFar
 log_of es = log_after_all (record { list = []; unlogged = None }) es
+
+-- what these entries have logged makes that queue of the one that was there before them
+abbrev pub IsLoggedQueue : KeyedAds → List Entry → KeyedAds → Type 0
+IsLoggedQueue first es q = queue_after_all first (log_of es).list ≡ Ok q

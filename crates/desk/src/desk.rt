@@ -6,7 +6,9 @@ ghost use Rattle.desk.specs.declared.entry.Entry.{Entry};
 ghost use Rattle.desk.specs.Entries.{Gained};
 ghost use Rattle.desk.specs.Given.{IsGivenBy, IsOwn};
 ghost use Rattle.desk.specs.Kinds.{IsKindOf};
+ghost use Rattle.desk.specs.Logs.{IsLoggedQueue};
 ghost use Rattle.desk.specs.Passes.{Fits, says_closed};
+ghost use Rattle.loggable.specs.Answers.{CanAppend};
 ghost use Rattle.pool_event.specs.declared.event.Event.{Event};
 ghost use Rattle.pool_event.specs.declared.look.Look.{Look};
 ghost use Rattle.pool_mail.specs.declared.mail.Mail.{Mail};
@@ -14,6 +16,7 @@ ghost use Rattle.pool_mail.specs.declared.matching.Request.{Request};
 ghost use Rattle.pool_outer.specs.declared.gate.Daemon.{Daemon};
 ghost use Rattle.pool_tables.specs.declared.refusal.MailError.{MailError};
 ghost use Rattle.pool_tables.specs.declared.refusal.StepError.{StepError};
+ghost use Rattle.queue_tx.specs.Queues.{KeyedAds};
 ghost use Rattle.receipt_roll.specs.Values.{RollMark};
 
 use ad_tree::Ad;
@@ -43,6 +46,9 @@ pub trait Desk {
     ghost mine: { Self.Pass → List Entry };
     // how many transactions were logged before all of them
     ghost first: { Self.Pass → ℕ };
+    // the queue, as all transactions make it that are logged by now: those before its entries, then
+    // those that the entries logged; of a pass that isn't the schedd's, whatever
+    ghost queue: { Self.Pass → KeyedAds };
     // which the roll of the log is, and which the holder's roll of ends
     ghost log_mark: { Self.Pass → RollMark };
 
@@ -76,9 +82,11 @@ pub trait Desk {
     ghost gave_slot_ad: { Self → Self.Pass → SlotId → Option Attributes → Type 0 };
 
     /// The holder of a pass gives an event of its own. Where the pool accepts it, the pass has one
-    /// entry more; where it doesn't, it has those that it had. An event may be refused as
-    /// `Pool::step` refuses it, by a pool that has become another since it was read. Computes as
-    /// `Pool::step`.
+    /// entry more; where it doesn't, it has those that it had. A transaction that is to be logged
+    /// meets the conditions of queue_log's `Log::append`, over a log of the transactions that were
+    /// logged before the pass's entries and then those that the entries logged. An event may be
+    /// refused as `Pool::step` refuses it, by a pool that has become another since it was read.
+    /// Computes as `Pool::step`.
     fn act(&self, alloc: Global, pass: &mut Self::Pass, event: Event) -> Result<Answer, StepError>
         requires ours { gave self.now pass.old }
         requires own { IsOwn (holder pass.old) event }
@@ -94,7 +102,10 @@ pub trait Desk {
         // What is answered, and what the pass keeps of it.
         ensures kind { IfOk result (IsKindOf event) }
         ensures fits { IfOk result (Fits (first pass.old) (mine pass.old)) }
+        ensures appends { IfOk result (CanAppend (queue pass.old)) }
         ensures gained { IfOk result (λ a. Gained (mine pass.old) event a (mine pass.new)) }
+        ensures queue { (q : KeyedAds) → IsLoggedQueue q (mine pass.old) (queue pass.old)
+            → IsLoggedQueue q (mine pass.new) (queue pass.new) }
         ensures cause { IfErr result (gave_refusal self.now pass.old event) }
         ensures refused { OnErr result (mine pass.new ≡ mine pass.old) }
         ensures closed { closed pass.new ≡ (says_closed result || closed pass.old) };

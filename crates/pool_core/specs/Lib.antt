@@ -3,3 +3,4 @@ pub mod Leading
 pub mod Made
 pub mod Pushed
 pub mod Refused
+pub mod ShortPlans

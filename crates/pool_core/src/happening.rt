@@ -2,6 +2,7 @@
 
 ghost use Rattle.std.specs.Prelude.{◌≡◌, ◌≢◌, ◌+◌, Err, IfErr, IfOk, None, OnErr, OnOk};
 ghost use Rattle.pool_core.specs.Refused.{IsRefused};
+ghost use Rattle.pool_core.specs.ShortPlans.{HasShortPlan};
 ghost use Rattle.pool_limits.specs.Sizes.{event_count};
 ghost use Rattle.pool_moves.specs.Deeds.{at_rest};
 ghost use Rattle.pool_moves.specs.Happens.{Happens, Reacts, counts_brought, latest_after};
@@ -12,8 +13,10 @@ ghost use Rattle.pool_tables.specs.declared.refusal.StepError.TheVariants as err
 use crate::daemons::{crash, receive, reopen, tick};
 use crate::events::{close, match_all, submit};
 use ad_value::Memory;
+use loggable::go_over_numbers;
 use pool_event::{Event, Stepped};
 use pool_limits::event_size;
+use pool_pending::{Pending, Unfinished};
 use pool_refusals::refusal_of;
 use pool_state::PoolState;
 use pool_steps::{end_run, give_order};
@@ -31,6 +34,7 @@ pub(crate) fn step(
     ensures reacts { IfOk result
         (λ r. Reacts (at_rest state.old) event.now r (at_rest state.new)) }
     ensures within { OnOk result (IsWithin state.new) }
+    ensures short { OnOk result (HasShortPlan state.new) }
     ensures refused { IfErr result
         (λ e. e ≢ error.Memory → IsRefused event.now (at_rest state.old) e) }
     ensures same { OnErr result (at_rest state.new ≡ at_rest state.old) }
@@ -46,6 +50,7 @@ fn react(alloc: Global, state: &mut PoolState, event: &Event) -> Result<Stepped,
     ensures reacts { IfOk result
         (λ r. Reacts (at_rest state.old) event.now r (at_rest state.new)) }
     ensures within { OnOk result (IsWithin state.new) }
+    ensures short { OnOk result (HasShortPlan state.new) }
     ensures large { result ≡ Err error.Bytes
         → IsTooLarge (λ new r. Reacts (at_rest state.old) event.now r new) }
     ensures refused { IfErr result IsLimit }
@@ -59,9 +64,26 @@ fn react(alloc: Global, state: &mut PoolState, event: &Event) -> Result<Stepped,
         Ok(stepped) => {
             state.events = events;
             state.latest = latest;
+            go_over_plan(state);
             Ok(stepped)
         }
         Err(error) => Err(error),
+    }
+}
+
+// The numbers of a plan that is unfinished stand in its transaction too, and so are short.
+fn go_over_plan(state: &PoolState)
+    ensures { HasShortPlan state.now }
+{
+    if let Some(
+        Pending {
+            what: Unfinished::Plan { plan },
+            tx,
+            ..
+        },
+    ) = &state.pending
+    {
+        go_over_numbers(plan, tx);
     }
 }
 

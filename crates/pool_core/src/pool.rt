@@ -1,5 +1,7 @@
 ghost use Rattle.std.specs.Prelude.{◌≡◌, ◌≢◌, ◌⊎◌, ◌≤◌, ℕ, List, Option, false, true, None, Some, IfErr, IfOk, IfSome, IsErrOf, IsSome, OnErr, OnOk};
 ghost use Rattle.claim_id.specs.declared.numbers.ClaimId.{ClaimId};
+ghost use Rattle.loggable.specs.Answers.{CanAppend};
+ghost use Rattle.loggable.specs.Loggable.{IsLoggableQueue};
 ghost use Rattle.pool_core.specs.KeptPools.{IsKeptPool};
 ghost use Rattle.pool_core.specs.Refused.{IsRefused};
 ghost use Rattle.pool_machines.specs.Slots.{slot_at};
@@ -10,6 +12,7 @@ ghost use Rattle.pool_moves.specs.Limits.{IsWithin};
 ghost use Rattle.pool_past.specs.Clusters.{IsNextCluster};
 ghost use Rattle.pool_safety.specs.Counted.{CountsBytes, HasFewJobs, held_count};
 ghost use Rattle.pool_safety.specs.Histories.{HasView, LaunchesRun, MovesView};
+ghost use Rattle.pool_safety.specs.Unfinished.{CanFinish};
 ghost use Rattle.pool_refusals.specs.Refusals.{IsRefusal};
 ghost use Rattle.pool_state.specs.Openings.{CanOpen, IsJobCount, IsOpenedBy};
 ghost use Rattle.pool_state.specs.PoolViews.{IsViewOf};
@@ -74,7 +77,8 @@ impl Pool {
     /// log repeats + orders + jobs * log jobs + size of the queue's ads): each ad of the queue is
     /// looked at, and tells that its names differ.
     pub fn open(alloc: Global, opening: Opening) -> Result<Pool, Memory>
-        requires { CanOpen opening }
+        requires can { CanOpen opening }
+        requires loggable { IsLoggableQueue opening.queue }
         ensures opened { IfOk result (IsOpenedBy opening) }
         ensures ordered { OnOk result (IsOrdered opening.queue) }
     {
@@ -85,18 +89,19 @@ impl Pool {
 
     /// An event happens, where it is accepted: then the pool becomes what `Reacts` says of it. That
     /// moves the abstract pool that it shows by steps of the event that may be made, and what is
-    /// launched was matched. Counted are the bytes that it brings, and those that the queue and all
-    /// mails have more by it. Where it isn't accepted, the pool is as it was, and the refusal is
-    /// the first of the order of `StepError`. Memory too where a count of 64 bits is at its end.
-    /// Computes as the daemon's call, and beside that in O(log jobs + size of what is sent and
-    /// logged); Matches in O(matches * (log jobs + claims + attributes)); Close in O(slots + orders
-    /// + size of the idle jobs' ads).
+    /// launched was matched; what is to be logged can be, over the queue. Counted are the bytes
+    /// that it brings, and those that the queue and all mails have more by it. Where it isn't
+    /// accepted, the pool is as it was, and the refusal is the first of the order of `StepError`.
+    /// Memory too where a count of 64 bits is at its end. Computes as the daemon's call, and beside
+    /// that in O(log jobs + size of what is sent and logged); Matches in O(matches * (log jobs +
+    /// claims + attributes)); Close in O(slots + orders + size of the idle jobs' ads).
     pub fn step(&mut self, alloc: Global, event: &Event) -> Result<Stepped, StepError>
         requires given { IsGiven event.now self.old }
         ensures accepted { OnOk result (IsRefusal event.now self.old None) }
         ensures reacts { IfOk result (λ r. Reacts self.old event.now r self.new) }
         ensures moves { OnOk result (MovesView event.now self.old self.new) }
         ensures launches { IfOk result (λ r. LaunchesRun r.answer self.new) }
+        ensures appends { IfOk result (λ r. CanAppend self.old.queue r.answer) }
         ensures counted { OnOk result (CountsBytes event.now self.old self.new) }
         ensures within { OnOk result (IsWithin self.new) }
         ensures refused { IfErr result (λ e. e ≢ error.Memory → IsRefused event.now self.old e) }
@@ -107,8 +112,8 @@ impl Pool {
 
     /// What every pool is: kept to a protocol of its daemons, with few clusters used. It shows an
     /// abstract pool, and whichever it shows is safe. The jobs that it counts are those of the
-    /// queue; the ads of the queue and of all mails ever sent are counted; and it has no more jobs
-    /// and no more bytes than it may. Computes in O(1).
+    /// queue; the ads of the queue and of all mails ever sent are counted; it has no more jobs and
+    /// no more bytes than it may; and what is unfinished can be logged. Computes in O(1).
     pub fn safety(&self)
         ensures kept { IsKeptPool self.now }
         ensures shown { (v : AbstractPool) × HasView self.now v }
@@ -117,6 +122,8 @@ impl Pool {
         ensures few_jobs { HasFewJobs self.now }
         ensures bytes { held_count self.now ≤ self.now.counts.bytes }
         ensures within { IsWithin self.now }
+        ensures loggable { IsLoggableQueue self.now.queue }
+        ensures finishes { CanFinish self.now }
     {
         let _ = &self.state;
     }

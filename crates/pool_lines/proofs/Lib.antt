@@ -1,3 +1,5 @@
 mod Given
 mod Idle
+mod Logging
 mod Marked
+mod QueueKeys

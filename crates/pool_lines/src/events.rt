@@ -6,6 +6,7 @@ ghost use Rattle.queue_tx.specs.declared.kind.JobKind.TheVariants.{Idle};
 ghost use Rattle.queue_tx.specs.Kinds.{kind_of};
 
 use crate::fields::Fields;
+use crate::loggable_jobs::are_loggable;
 use crate::outcome::memory;
 use crate::receipts::{read_ended, read_logged, read_reopen};
 use crate::rolls::Rolls;
@@ -19,7 +20,7 @@ use std::alloc::Global;
 
 /// The event that a case says, where nothing of it hangs on the pool. `unfinished` is the
 /// transaction that the pool asked to log last. Computes in O(bytes), and of `submit-many` in
-/// O(attributes) for each job.
+/// O(size of the ad) for each job.
 pub fn read_event(
     alloc: Global,
     case: Case<'_>,
@@ -63,7 +64,7 @@ fn read_submit(alloc: Global, fields: &mut Fields<'_>) -> Result<Event, CaseErro
     let reading = fields.natural()?;
     let count = fields.left() as u64;
     let jobs = read_ads(alloc, fields, count)?;
-    submission(fields, boot, jobs, reading)
+    submission(alloc, fields, boot, jobs, reading)
 }
 
 /// So many ads. Computes in O(bytes of their fields).
@@ -94,7 +95,7 @@ fn read_many(alloc: Global, fields: &mut Fields<'_>) -> Result<Event, CaseError>
     let reading = fields.natural()?;
     let count = fields.natural()?;
     let jobs = read_copies(alloc, fields, count)?;
-    submission(fields, boot, jobs, reading)
+    submission(alloc, fields, boot, jobs, reading)
 }
 
 fn read_copies(alloc: Global, fields: &mut Fields<'_>, count: u64) -> Result<AdList, CaseError> {
@@ -127,9 +128,10 @@ fn numbered(alloc: Global, ad: &Ad, number: u64) -> Result<Ad, Memory> {
     }
 }
 
-// Jobs are submitted, where they are idle.
+// Jobs are submitted, where they are idle and can be logged.
 #[tactic(auto, using(crate::proofs::Idle::all_idle))]
 fn submission(
+    alloc: Global,
     fields: &Fields<'_>,
     boot: u64,
     jobs: AdList,
@@ -137,7 +139,7 @@ fn submission(
 ) -> Result<Event, CaseError>
     ensures { IfOk result IsGivenToAny }
 {
-    if !are_idle(jobs.as_slice()) {
+    if !are_idle(jobs.as_slice()) || !are_loggable(alloc, jobs.as_slice()) {
         return Err(fields.form());
     }
     Ok(Event::Submit {

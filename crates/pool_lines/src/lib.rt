@@ -5,6 +5,9 @@
 mod events;
 mod fields;
 mod judging;
+mod keys;
+mod log_queue;
+mod loggable_jobs;
 mod opening;
 mod outcome;
 mod receipts;

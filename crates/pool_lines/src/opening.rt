@@ -1,9 +1,11 @@
 // Whether a pool may open.
 
 ghost use Rattle.std.specs.Prelude.{◌≡◌, IfOk, IfSome, true};
+ghost use Rattle.loggable.specs.Loggable.{HasPrintableKeys};
 ghost use Rattle.pool_lines.specs.Opened.{HasLittle, HasMachineCount, HasMachines};
 ghost use Rattle.pool_state.specs.Openings.{CanOpen};
 
+use crate::keys::has_printable_keys;
 use ad_value::Memory;
 use pool_limits::{MAX_BYTES, queue_size};
 use pool_state::{
@@ -12,13 +14,19 @@ use pool_state::{
 use receipt_roll::MAX_ITEMS;
 use std::alloc::Global;
 
-/// Whether a pool may open with these parts. Computes in O(slots + jobs * log jobs + size of the
-/// queue's ads).
+/// Whether a pool may open with these parts, and each key of its queue can be printed. Computes in
+/// O(slots + jobs * log jobs + size of the queue's ads).
 pub fn can_open(alloc: Global, opening: &Opening) -> Result<bool, Memory>
-    ensures { IfOk result (λ can. can ≡ true → CanOpen opening.now) }
+    ensures can { IfOk result (λ can. can ≡ true → CanOpen opening.now) }
+    ensures keys { IfOk result (λ can. can ≡ true → HasPrintableKeys opening.now.queue) }
 {
     let jobs = count_jobs(alloc, &opening.queue)?;
-    Ok(has_machines(opening) && has_little(opening) && jobs <= MAX_JOBS)
+    Ok(
+        has_machines(opening)
+            && has_little(opening)
+            && jobs <= MAX_JOBS
+            && has_printable_keys(&opening.queue),
+    )
 }
 
 // Its slots stand in order and are on as many machines as there are marks, and neither are too

@@ -1,8 +1,10 @@
 // What a pool opens with.
 
 ghost use Rattle.std.specs.Prelude.{◌≡◌};
+ghost use Rattle.loggable.specs.Loggable.{IsRoomy};
 
 use crate::fields::Fields;
+use crate::log_queue::LogQueue;
 use crate::outcome::memory;
 use ad_value::{Seq, Text};
 use cases::{Case, CaseError};
@@ -11,7 +13,7 @@ use pool_event::Allow;
 use pool_mail::{Ending, Settings, SlotAd, SlotAdList};
 use pool_outer::Daemon;
 use pool_state::Opening;
-use queue_record::{ReadLog, Reader, RecordError};
+use queue_record::RecordError;
 use queue_tx::Tx;
 use receipt_roll::Mark;
 use slot_state::Pair;
@@ -24,7 +26,7 @@ pub struct SetUp {
     secret_key: u64,
     settings: Settings,
     slots: SlotAdList,
-    log: ReadLog,
+    queue: LogQueue,
     next_tx: u64,
     wishes: Seq<Wish>,
     crashes: Seq<Daemon>,
@@ -39,7 +41,7 @@ impl Drop for SetUp {
             secret_key: _,
             settings: _,
             slots: _slots,
-            log: _log,
+            queue: _queue,
             next_tx: _,
             wishes: _wishes,
             crashes: _crashes,
@@ -72,7 +74,7 @@ impl SetUp {
     ) -> Result<(), CaseError> {
         match case.kind {
             "slot" => self.add_slot(alloc, fields),
-            "queue" => self.set_log(alloc, fields),
+            "queue" => self.set_queue(alloc, fields),
             "wish" => self.add_wish(fields),
             "crash-line" => self.add_crashes(fields),
             "repeat-line" => self.add_repeats(fields),
@@ -98,10 +100,12 @@ impl SetUp {
         }
     }
 
-    /// What the pool opens with, by the marks of its rolls. Computes in O(1).
+    /// What the pool opens with, by the marks of its rolls. Its queue has room for what the pool
+    /// sets. Computes in O(1).
     pub fn into_opening(self, log_mark: Mark<Tx>, end_marks: Vec<Mark<Ending>>) -> Opening
         ensures log { result.log_mark ≡ log_mark }
         ensures ends { result.end_marks.items ≡ end_marks.items }
+        ensures room { IsRoomy result.queue }
     {
         let SetUp {
             line: _,
@@ -109,19 +113,18 @@ impl SetUp {
             secret_key,
             settings,
             slots,
-            log,
+            queue,
             next_tx,
             wishes,
             crashes,
             repeats,
         } = self;
-        let ReadLog { queue, .. } = log;
         Opening {
             slots,
             settings,
             wishes,
             allow: Allow { crashes, repeats },
-            queue,
+            queue: queue.into_queue(),
             next_tx,
             log_mark,
             end_marks,
@@ -135,11 +138,11 @@ impl SetUp {
         memory(self.slots.push(slot))
     }
 
-    fn set_log(&mut self, alloc: Global, fields: &mut Fields<'_>) -> Result<(), CaseError> {
+    fn set_queue(&mut self, alloc: Global, fields: &mut Fields<'_>) -> Result<(), CaseError> {
         self.next_tx = fields.natural()?;
         let bytes = fields.bytes(alloc)?;
-        match log_of(alloc, &bytes) {
-            Ok(log) => self.log = log,
+        match LogQueue::of(alloc, &bytes) {
+            Ok(queue) => self.queue = queue,
             Err(RecordError::Memory) => return Err(CaseError::Memory),
             Err(_) => return Err(fields.form()),
         }
@@ -195,7 +198,7 @@ fn new_pool(alloc: Global, case: Case<'_>, fields: &mut Fields<'_>) -> Result<Se
         secret_key,
         settings,
         slots: SlotAdList::new(alloc),
-        log: Reader::new(alloc).end(),
+        queue: LogQueue::empty(),
         next_tx: 0,
         wishes: Seq::new(alloc),
         crashes: Seq::new(alloc),
@@ -239,12 +242,4 @@ fn slot_with(
         at: 0,
         ad,
     })
-}
-
-fn log_of(alloc: Global, bytes: &[u8]) -> Result<ReadLog, RecordError> {
-    let mut reader = Reader::new(alloc);
-    match reader.feed(bytes) {
-        Ok(()) => Ok(reader.end()),
-        Err(error) => Err(error),
-    }
 }

@@ -2,6 +2,7 @@
 use Rattle.std.specs.Prelude.{◌≡◌, ℕ, ◌<◌, ◌^◌, List, [], ◌∷◌, length, slice_get, Option, Some, None, IfSome, All}
 use Rattle.ad_tree.specs.Ad.{AreDistinct, Attributes}
 use Rattle.claim_id.specs.declared.numbers.ClaimId.{ClaimId}
+use Rattle.loggable.specs.Loggable.{AreLoggableJobs}
 use Rattle.pool_event.specs.declared.event.Event.{Event}
 use Rattle.pool_event.specs.declared.event.Event.TheVariants as event
 use Rattle.pool_mail.specs.declared.end.Ending.{Ending}
@@ -47,10 +48,10 @@ pub record IsNumbered (claim : ClaimId) : Type 0 where
 abbrev pub AreNumbered : List Match → Type 0
 AreNumbered list = All (λ m. IsNumbered m.claim) list
 
--- The jobs of a submission are idle, receipts are of the pool's own rolls, and each match has its
--- proof and a claim whose numbers fit.
+-- The jobs of a submission are idle and can be logged, receipts are of the pool's own rolls, and
+-- each match has its proof and a claim whose numbers fit.
 abbrev pub IsGiven : Event → PoolState → Type 0
-IsGiven (event.Submit boot jobs reading) s = AreIdle jobs
+IsGiven (event.Submit boot jobs reading) s = AreIdle jobs × AreLoggableJobs jobs
 IsGiven (event.Logged boot receipt) s = IsOfLog s receipt
 IsGiven (event.Ended machine boot receipt reading) s = IsOfMachine machine s receipt
 IsGiven (event.Reopen who kept ended reading) s =

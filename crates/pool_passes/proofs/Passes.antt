@@ -6,13 +6,11 @@ use Rattle.desk.specs.declared.entry.Sort.{Sort}
 use Rattle.desk.specs.Entries.{entry_of}
 use Rattle.desk.specs.Given.{IsOwn}
 use Rattle.desk.specs.Kinds.{AsksNothing, IsKindOf}
-use Rattle.desk.specs.Logs.{LogSoFar, log_after, log_of, log_told, log_with, tells_logged}
+use Rattle.desk.specs.Logs.{IsLoggedQueue, LogSoFar, log_after, log_of, log_told, tells_logged}
 use Rattle.desk.specs.Passes.{Fits}
 use Rattle.desk.proofs.OneMore.{log_on}
 use Rattle.pool_event.specs.declared.answer.Answer.{Answer}
 use Rattle.pool_event.specs.declared.answer.Answer.TheVariants as answer
-use Rattle.pool_event.specs.declared.answer.Kept.{Kept}
-use Rattle.pool_event.specs.declared.answer.Kept.TheVariants as kept
 use Rattle.pool_event.specs.declared.answer.Stepped.{Stepped}
 use Rattle.pool_event.specs.declared.event.Event.{Event}
 use Rattle.pool_event.specs.declared.event.Event.TheVariants as event
@@ -22,9 +20,12 @@ use Rattle.pool_outer.specs.declared.gate.Daemon.{Daemon}
 use Rattle.pool_outer.specs.declared.gate.Daemon.TheVariants.{Schedd, Startd, Matchmaker}
 use Rattle.pool_refusals.specs.Refusals.{IsRefusal}
 use Rattle.pool_state.specs.declared.state.PoolState.{PoolState}
+use Rattle.queue_tx.specs.Operations.{Operation}
+use Rattle.queue_tx.specs.Queues.{KeyedAds, queue_after_all}
 use Rattle.startd_core.specs.Startds.{StartdValue, unmoved}
 use Rattle.pool_passes.specs.Standing.{LogStands, RunsStand, Stands, logged_before}
 use Rattle.pool_passes.proofs.Answered.{kind_of}
+use Rattle.pool_passes.proofs.LogCourse.{kept_list, queue_stays}
 use Rattle.pool_passes.proofs.MachineCourse.{OwnDoes, others_machine, own_machine, set_there}
 use Rattle.pool_passes.proofs.PassCourse.{WellGoes, runs_fit, runs_go}
 use Rattle.pool_passes.proofs.Refused.{its_refusal}
@@ -36,13 +37,13 @@ its_log : (mine : List Entry) (s new : PoolState) (e : Event) (r : Stepped) (pla
     → ScheddGoesOn mine s (log_after (log_of mine) (entry_of place e r.kept)) new r.answer
 its_log mine s new e r place own free h stands =
     let go = own_log mine place e s h.then_pool r own (its_refusal e s free) h.happens stands in
-    subst (λ (x : PoolState). ScheddGoesOn mine s (log_after (log_of mine) (entry_of place e r.kept)) x r.answer) (sym h.pool) (record { goes = go.goes; fits = go.fits })
+    subst (λ (x : PoolState). ScheddGoesOn mine s (log_after (log_of mine) (entry_of place e r.kept)) x r.answer) (sym h.pool) (record { goes = go.goes; fits = go.fits; queue = go.queue })
 
 -- an event of another changes nothing of the log
 same_log : (s new : PoolState) (e : Event) (r : Stepped) → holder_of e ≢ Some Schedd → Reacts s e r new → HasSameLog s new
 same_log s new e r other h =
     let same = others_log e (counts_brought e s) h.then_pool r other h.happens in
-    subst (HasSameLog s) (sym h.pool) (record { pending = same.pending; next = same.next })
+    subst (HasSameLog s) (sym h.pool) (record { pending = same.pending; next = same.next; queue = same.queue })
 
 -- ---- a startd
 its_runs : (machine : ℕ) (s new : PoolState) (e : Event) (r : Stepped) → IsOwn (Some (Startd machine)) e → Reacts s e r new → OwnDoes machine s new r
@@ -125,19 +126,21 @@ other_told (Some Schedd) name number log other = absurd (other refl)
 other_told (Some (Startd machine)) name number log other = refl
 other_told (Some Matchmaker) name number log other = refl
 
-kept_list : (k : Kept) (log : LogSoFar) → (log_with k log).list ≡ log.list
-kept_list kept.Done log = refl
-kept_list (kept.Append number tx) log = refl
-kept_list (kept.Launch run job what) log = refl
-kept_list (kept.Kill runs) log = refl
+-- one entry more logs nothing
+other_list : (mine : List Entry) (e : Event) (r : Stepped) (place : ℕ) → holder_of e ≢ Some Schedd → (log_of (mine ++ entry_of place e r.kept ∷ [])).list ≡ (log_of mine).list
+other_list mine e r place other =
+    let x : Entry = entry_of place e r.kept in
+    ap (λ (l : LogSoFar). l.list) (log_on mine x) ∙ (kept_list r.kept (log_told (tells_logged x.who x.sort) x.number (log_of mine))
+    ∙ ap (λ (l : LogSoFar). l.list) (other_told x.who x.sort x.number (log_of mine) other))
 
 other_before : (mine : List Entry) (s new : PoolState) (e : Event) (r : Stepped) (place : ℕ) → holder_of e ≢ Some Schedd → Reacts s e r new → logged_before (mine ++ entry_of place e r.kept ∷ []) new ≡ logged_before mine s
 other_before mine s new e r place other h =
-    let x : Entry = entry_of place e r.kept in
-    let list : (log_of (mine ++ x ∷ [])).list ≡ (log_of mine).list =
-    ap (λ (l : LogSoFar). l.list) (log_on mine x) ∙ (kept_list r.kept (log_told (tells_logged x.who x.sort) x.number (log_of mine))
-    ∙ ap (λ (l : LogSoFar). l.list) (other_told x.who x.sort x.number (log_of mine) other)) in
-    ap (λ n. n - length (log_of (mine ++ x ∷ [])).list) (same_log s new e r other h).next ∙ ap (λ (xs : List (List _)). s.next_tx - length xs) list
+    ap (λ n. n - length (log_of (mine ++ entry_of place e r.kept ∷ [])).list) (same_log s new e r other h).next ∙ ap (λ (xs : List (List Operation)). s.next_tx - length xs) (other_list mine e r place other)
+
+other_queue : (mine : List Entry) (s new : PoolState) (e : Event) (r : Stepped) (place : ℕ) (first : KeyedAds) → holder_of e ≢ Some Schedd → Reacts s e r new → IsLoggedQueue first mine s.queue
+    → IsLoggedQueue first (mine ++ entry_of place e r.kept ∷ []) new.queue
+other_queue mine s new e r place first other h is =
+    queue_stays (log_of mine) (log_of (mine ++ entry_of place e r.kept ∷ [])) s.queue new.queue (other_list mine e r place other) (same_log s new e r other h).queue first is
 
 -- whose it is
 own_holder : (holder : Option Daemon) (e : Event) → IsOwn holder e → holder_of e ≡ holder
@@ -169,15 +172,31 @@ own_fits (Some Schedd) mine s new e r own free h stands = (its_log mine s new e 
 own_fits (Some (Startd machine)) mine s new e r own free h stands = runs_fits machine (logged_before mine s) mine s new e r own h stands
 own_fits (Some Matchmaker) mine s new e r own free h stands = nothing_fits (logged_before mine s) mine r.answer (matchmaker_asks e r.answer own (kind_of s new e r h))
 
+-- events of other holders are none of the schedd
+none_not : (e : Event) → IsOwn None e → holder_of e ≢ Some Schedd
+none_not e own same = none-some Schedd (sym (own_holder None e own) ∙ same)
+
+startd_not : (machine : ℕ) (e : Event) → IsOwn (Some (Startd machine)) e → holder_of e ≢ Some Schedd
+startd_not machine e own same = let clash : Some (Startd machine) ≡ Some Schedd = sym (own_holder (Some (Startd machine)) e own) ∙ same in cc
+
+matchmaker_not : (e : Event) → IsOwn (Some Matchmaker) e → holder_of e ≢ Some Schedd
+matchmaker_not e own same = let clash : Some Matchmaker ≡ Some Schedd = sym (own_holder (Some Matchmaker) e own) ∙ same in cc
+
 pub own_before : (holder : Option Daemon) (mine : List Entry) (s new : PoolState) (e : Event) (r : Stepped) (place : ℕ) → IsOwn holder e → IsRefusal e s None → Reacts s e r new → Stands holder mine s
     → logged_before (mine ++ entry_of place e r.kept ∷ []) new ≡ logged_before mine s
-own_before None mine s new e r place own free h stands = other_before mine s new e r place (λ same. none-some Schedd (sym (own_holder None e own) ∙ same)) h
+own_before None mine s new e r place own free h stands = other_before mine s new e r place (none_not e own) h
 own_before (Some Schedd) mine s new e r place own free h stands =
     ap (λ (l : LogSoFar). new.next_tx - length l.list) (log_on mine (entry_of place e r.kept)) ∙ (its_log mine s new e r place own free h stands).goes.before
-own_before (Some (Startd machine)) mine s new e r place own free h stands =
-    other_before mine s new e r place (λ same. (let clash : Some (Startd machine) ≡ Some Schedd = sym (own_holder (Some (Startd machine)) e own) ∙ same in cc)) h
-own_before (Some Matchmaker) mine s new e r place own free h stands =
-    other_before mine s new e r place (λ same. (let clash : Some Matchmaker ≡ Some Schedd = sym (own_holder (Some Matchmaker) e own) ∙ same in cc)) h
+own_before (Some (Startd machine)) mine s new e r place own free h stands = other_before mine s new e r place (startd_not machine e own) h
+own_before (Some Matchmaker) mine s new e r place own free h stands = other_before mine s new e r place (matchmaker_not e own) h
+
+pub own_queue : (holder : Option Daemon) (mine : List Entry) (s new : PoolState) (e : Event) (r : Stepped) (place : ℕ) (first : KeyedAds) → IsOwn holder e → IsRefusal e s None → Reacts s e r new → Stands holder mine s
+    → IsLoggedQueue first mine s.queue → IsLoggedQueue first (mine ++ entry_of place e r.kept ∷ []) new.queue
+own_queue None mine s new e r place first own free h stands is = other_queue mine s new e r place first (none_not e own) h is
+own_queue (Some Schedd) mine s new e r place first own free h stands is =
+    ap (λ (l : LogSoFar). queue_after_all first l.list) (log_on mine (entry_of place e r.kept)) ∙ (its_log mine s new e r place own free h stands).queue first is
+own_queue (Some (Startd machine)) mine s new e r place first own free h stands is = other_queue mine s new e r place first (startd_not machine e own) h is
+own_queue (Some Matchmaker) mine s new e r place first own free h stands is = other_queue mine s new e r place first (matchmaker_not e own) h is
 
 pub others_stand : (holder : Option Daemon) (mine : List Entry) (s new : PoolState) (e : Event) (r : Stepped) → holder_of e ≢ holder → IsRefusal e s None → Reacts s e r new → Stands holder mine s → Stands holder mine new
 others_stand None mine s new e r other free h stands = tt
@@ -188,3 +207,6 @@ others_stand (Some (Startd machine)) mine s new e r other free h stands = λ v a
     let same = others_machine machine e (counts_brought e s) h.then_pool r other h.happens in
     stands v (sym same ∙ (sym (ap (λ (x : PoolState). slice_get x.machines machine) h.pool) ∙ at))
 others_stand (Some Matchmaker) mine s new e r other free h stands = tt
+
+pub others_queue : (s new : PoolState) (e : Event) (r : Stepped) → holder_of e ≢ Some Schedd → IsRefusal e s None → Reacts s e r new → new.queue ≡ s.queue
+others_queue s new e r other free h = (same_log s new e r other h).queue

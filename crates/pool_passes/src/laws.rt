@@ -1,11 +1,12 @@
 //! What holds of every pass and its pool.
 
-ghost use Rattle.std.specs.Prelude.{◌≡◌, ◌≢◌, ◌++◌, ◌∷◌, [], ℕ, List, Option, None, is_some};
+ghost use Rattle.std.specs.Prelude.{◌≡◌, ◌≢◌, ◌++◌, ◌∷◌, [], ℕ, List, Option, Some, None, is_some};
 ghost use Rattle.claim_id.specs.declared.numbers.ClaimId.{ClaimId};
 ghost use Rattle.desk.specs.declared.entry.Entry.{Entry};
 ghost use Rattle.desk.specs.Entries.{entry_of};
 ghost use Rattle.desk.specs.Given.{IsGivenBy, IsOwn};
 ghost use Rattle.desk.specs.Kinds.{IsKindOf};
+ghost use Rattle.desk.specs.Logs.{IsLoggedQueue};
 ghost use Rattle.desk.specs.Passes.{Fits};
 ghost use Rattle.pool_event.specs.Answers.{kept_of};
 ghost use Rattle.pool_event.specs.declared.answer.Stepped.{Stepped};
@@ -14,10 +15,12 @@ ghost use Rattle.pool_event.specs.Events.{holder_of};
 ghost use Rattle.pool_moves.specs.Given.{IsGiven};
 ghost use Rattle.pool_moves.specs.Happens.{Reacts};
 ghost use Rattle.pool_outer.specs.declared.gate.Daemon.{Daemon};
+ghost use Rattle.pool_outer.specs.declared.gate.Daemon.TheVariants.{Schedd};
 ghost use Rattle.pool_passes.specs.Standing.{HasRoll, Stands, end_mark_of, logged_before};
 ghost use Rattle.pool_refusals.specs.Refusals.{IsRefusal};
 ghost use Rattle.pool_state.specs.declared.state.PoolState.{PoolState};
 ghost use Rattle.pool_tables.specs.DaemonTables.{daemon_state};
+ghost use Rattle.queue_tx.specs.Queues.{KeyedAds};
 ghost use Rattle.schedd_state.specs.Reopening.{IsReader};
 
 /// Some function reads the texts of claims.
@@ -53,7 +56,8 @@ pub fn rolls_stay()
 
 /// What the entries of a pass have to do with the pool (`Stands`) goes on so with an event of its
 /// own, which is one entry more. The answer fits the entries before it, and how many transactions
-/// were logged before all of them stays the same.
+/// were logged before all of them stays the same. Where the queue is what the transactions that the
+/// entries logged make of a first one, it is so with one entry more.
 pub fn own_events_stand()
     ensures stands { (holder : Option Daemon) (mine : List Entry) (s new : PoolState)
         (e : Event) (r : Stepped) (place : ℕ) → IsOwn holder e → IsRefusal e s None
@@ -67,11 +71,19 @@ pub fn own_events_stand()
         (e : Event) (r : Stepped) (place : ℕ) → IsOwn holder e → IsRefusal e s None
         → Reacts s e r new → Stands holder mine s
         → logged_before (mine ++ entry_of place e r.kept ∷ []) new ≡ logged_before mine s }
+    ensures queue { (holder : Option Daemon) (mine : List Entry) (s new : PoolState)
+        (e : Event) (r : Stepped) (place : ℕ) (first : KeyedAds) → IsOwn holder e
+        → IsRefusal e s None → Reacts s e r new → Stands holder mine s
+        → IsLoggedQueue first mine s.queue
+        → IsLoggedQueue first (mine ++ entry_of place e r.kept ∷ []) new.queue }
 {}
 
-/// And it goes on so with an event of another holder, which is no entry of the pass.
+/// And it goes on so with an event of another holder, which is no entry of the pass. The queue
+/// stays as it is with each event that isn't the schedd's.
 pub fn events_of_others_stand()
-    ensures { (holder : Option Daemon) (mine : List Entry) (s new : PoolState) (e : Event)
+    ensures stands { (holder : Option Daemon) (mine : List Entry) (s new : PoolState) (e : Event)
         (r : Stepped) → holder_of e ≢ holder → IsRefusal e s None → Reacts s e r new
         → Stands holder mine s → Stands holder mine new }
+    ensures queue { (s new : PoolState) (e : Event) (r : Stepped) → holder_of e ≢ Some Schedd
+        → IsRefusal e s None → Reacts s e r new → new.queue ≡ s.queue }
 {}

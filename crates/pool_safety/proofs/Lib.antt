@@ -38,3 +38,8 @@ pub mod JobCounts
 pub mod Counting
 pub mod FewJobs
 pub mod HistoryCounts
+pub mod LogPools
+pub mod LogEvents
+pub mod LogHeaders
+pub mod LogAnswers
+pub mod LogAppends

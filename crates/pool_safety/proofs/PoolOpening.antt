@@ -46,7 +46,7 @@ use Rattle.schedd_plan.specs.declared.status.JobStatus.TheVariants as status
 use Rattle.startd_core.proofs.Stays.{new_stays, slot_stays}
 use Rattle.startd_core.specs.Sound.{IsSound}
 use Rattle.startd_core.specs.Startds.{StartdValue, with_slot}
-use Rattle.startd_slot.specs.SlotStates.{slot_after_boot}
+use Rattle.startd_slot.specs.SlotStates.{running_of, slot_after_boot}
 use Rattle.startd_slot.specs.declared.slot.Slot.{Slot}
 use Rattle.pool_safety.specs.Kept.{AreAddressed, AreInBoot, IsKept, IsPendingTx}
 
@@ -145,6 +145,62 @@ startd_fresh o machine v can at = subst (λ n. IsFresh o n v) (from_zero machine
     from_zero : (n : ℕ) → 0 + n ≡ n
     from_zero n = omega arith
 
+-- ---- how many there are
+-- what follows a slot
+abbrev Counts : Opening → SlotAd → List SlotAd → ℕ → Type 0
+Counts o s ss count = (u : StartdValue) → s.slot.machine + 1 ≡ u.machine.number + 1 → machines_after (s.slot.machine + 1) s.slot.slot ss ≡ Some count → u.machine.number + length (startds_from (machinery_of o) u ss) ≡ count
+
+-- one for each machine that has a slot
+all_from : (o : Opening) (v : StartdValue) (ss : List SlotAd) (machines slots count : ℕ) → IsAfter machines v.machine.number → machines_after machines slots ss ≡ Some count → 0 < count
+    → v.machine.number + length (startds_from (machinery_of o) v ss) ≡ count
+all_from o v [] machines slots count after is some = by after
+  where
+    at : machines ≡ count
+    at = same_Some machines count is
+
+    by : IsAfter machines v.machine.number → v.machine.number + 1 ≡ count
+    by (inl next) = sym next ∙ at
+    by (inr start) = absurd (never machines count start.0 at some)
+      where
+        never : (m n : ℕ) → m ≡ 0 → m ≡ n → 0 < n → ⊥
+        never m n e same less = omega (arith, e, same, less)
+all_from o v (s ∷ ss) machines slots count after is some = by_next (is_next_slot machines slots s.slot) refl is
+    (λ u last rest. all_from o u ss (s.slot.machine + 1) s.slot.slot count (inl last) rest some)
+  where
+    one_less : (n k l total : ℕ) → k ≡ n + 1 → k + l ≡ total → n + suc l ≡ total
+    one_less n k l total at is = omega (arith, at, is)
+
+    by_machine : (b : Bool) → (s.slot.machine == v.machine.number) ≡ b → (s.slot.machine ≡ machines) ⊎ (s.slot.machine + 1 ≡ machines) → machines_after (s.slot.machine + 1) s.slot.slot ss ≡ Some count → Counts o s ss count
+        → v.machine.number + length (if b then startds_from (machinery_of o) (with_slot s.name s.ad v) ss else v ∷ startds_from (machinery_of o) (with_slot s.name s.ad (new_startd (machinery_of o) s.slot.machine)) ss) ≡ count
+    by_machine true test next is rest = rest (with_slot s.name s.ad v) (ap (λ n. n + 1) (eqb-true s.slot.machine v.machine.number test)) is
+    by_machine false test next is rest =
+        one_less v.machine.number s.slot.machine (length (startds_from (machinery_of o) (with_slot s.name s.ad (new_startd (machinery_of o) s.slot.machine)) ss)) count
+        (other_is_next machines v.machine.number s.slot.machine after next (eqb-false s.slot.machine v.machine.number test))
+        (rest (with_slot s.name s.ad (new_startd (machinery_of o) s.slot.machine)) refl is)
+
+    by_next : (b : Bool) → is_next_slot machines slots s.slot ≡ b → (if b then machines_after (s.slot.machine + 1) s.slot.slot ss else None) ≡ Some count → Counts o s ss count
+        → v.machine.number + length (startds_from (machinery_of o) v (s ∷ ss)) ≡ count
+    by_next false test is rest = absurd (none-some count is)
+    by_next true test is rest = by_machine (s.slot.machine == v.machine.number) refl (next_machine machines slots s.slot test) is rest
+
+pub startds_counted : (o : Opening) → CanOpen o → length (opening_startds o) ≡ length o.end_marks.items
+startds_counted o can =
+    sym (from_zero (length (opening_startds o)))
+    ∙ (all_from o (new_startd (machinery_of o) 0) o.slots 0 0 can.machines (inr (refl, refl)) can.slots_are can.some ∙ sym can.marks)
+  where
+    from_zero : (n : ℕ) → 0 + n ≡ n
+    from_zero n = omega arith
+
+-- ---- nothing runs on them
+place_in : (slots : List Slot) (place : ℕ) (slot : Slot) → slice_get slots place ≡ Some slot → IsIn slot slots
+place_in [] place slot at = absurd (none-some slot at)
+place_in (x ∷ xs) zero slot at = inl (sym (same_Some x slot at))
+place_in (x ∷ xs) (suc place) slot at = inr (place_in xs place slot at)
+
+pub startd_rests : (o : Opening) (machine : ℕ) (v : StartdValue) → CanOpen o → slice_get (opening_startds o) machine ≡ Some v
+    → (place : ℕ) (slot : Slot) → slice_get v.slots place ≡ Some slot → running_of slot.state ≡ None
+startd_rests o machine v can at place slot there = ap running_of ((startd_fresh o machine v can at).slots slot (place_in v.slots place slot there)).1
+
 -- ---- boots
 first_boots : (n boot : ℕ) (crashes : List Daemon) (x : DaemonState) → IsIn x (first_startds n boot crashes) → x.boot ≡ boot
 first_boots zero boot crashes x there = absurd there
@@ -155,7 +211,7 @@ first_boots (suc n) boot crashes x there = by (in_both x (first_startds n boot c
     by (inr (inl same)) rest = ap (λ (y : DaemonState). y.boot) same
     by (inr (inr there)) rest = absurd there
 
-so_many : (n boot : ℕ) (crashes : List Daemon) → length (first_startds n boot crashes) ≡ n
+pub so_many : (n boot : ℕ) (crashes : List Daemon) → length (first_startds n boot crashes) ≡ n
 so_many zero boot crashes = refl
 so_many (suc n) boot crashes = length_push (first_startds n boot crashes) (first_state boot (Startd n) crashes) ∙ more (length (first_startds n boot crashes)) n (so_many n boot crashes)
   where

@@ -1,5 +1,5 @@
 -- The next cluster is free, since few are used.
-use Rattle.std.proofs.Common.{◌≡◌, ◌⊎◌, inl, inr, ℕ, zero, suc, ◌+◌, ◌-◌, ◌<◌, ◌≤◌, Bool, true, false, ◌&&◌, List, [], ◌∷◌, length, Option, Some, None, if◌then◌else◌, nat_le, add-one, suc-add, zero-add, leb-true, lt-ltb, refl, sym, ◌∙◌, ap, subst, arith}
+use Rattle.std.proofs.Common.{◌≡◌, ◌⊎◌, inl, inr, ℕ, zero, suc, ◌+◌, ◌-◌, ◌<◌, ◌≤◌, Bool, true, false, ◌&&◌, List, [], ◌∷◌, length, Option, Some, None, if◌then◌else◌, nat_le, nat_lt, ltb-true, add-one, suc-add, zero-add, leb-true, lt-ltb, refl, sym, ◌∙◌, ap, subst, arith}
 use Rattle.std.proofs.lemmas.Bool.{cases_lt}
 use Rattle.ad_tree.specs.Ad.{Attributes}
 use Rattle.pool_past.specs.Clusters.{IsNextCluster, cluster_after, cluster_by, clusters_on, first_cluster, first_cluster_by, is_used}
@@ -131,3 +131,21 @@ next_is_free q finished cluster xs few all next = by next.free
     by : (is_used q finished cluster ≡ false) ⊎ (next.steps ≡ LAST_CLUSTER) → is_used q finished cluster ≡ false
     by (inl free) = free
     by (inr whole) = let long : LAST_CLUSTER ≤ length xs = up_to LAST_CLUSTER xs (used whole) in absurd (omega (arith, long, few))
+
+after_is : (c : ℕ) → IsCluster c → IsCluster (cluster_after c)
+after_is c is = by (nat_lt c LAST_CLUSTER) refl
+  where
+    by : (b : Bool) → nat_lt c LAST_CLUSTER ≡ b → IsCluster (if b then c + 1 else 1)
+    by true less = let small = ltb-true c LAST_CLUSTER less in record { low = omega arith; high = omega (arith, small) }
+    by false more = record { low = omega arith; high = omega arith }
+
+on_is : (n from : ℕ) → IsCluster from → IsCluster (clusters_on n from)
+on_is zero from is = is
+on_is (suc n) from is = after_is (clusters_on n from) (on_is n from is)
+
+-- it is a number that a cluster may have
+pub next_is_number : (q : KeyedAds) (finished : List (Key × FinishedJob)) (cluster : ℕ) → IsNextCluster q finished cluster → (0 < cluster) × (cluster ≤ LAST_CLUSTER)
+next_is_number q finished cluster next =
+    let is = subst IsCluster (sym next.is) (on_is next.steps (first_cluster q) (by_header (ad_at Header q))) in
+    let low = is.low in
+    (omega (arith, low), is.high)

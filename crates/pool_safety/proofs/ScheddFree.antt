@@ -32,15 +32,15 @@ few_events s h = by (nat_lt s.events MAX_EVENTS) refl h
 few_used : (length events : ℕ) → length ≤ MAX_BYTES + events → events < MAX_EVENTS → length < LAST_CLUSTER
 few_used length events few less = omega (arith, few, less)
 
-free_next : (s : PoolState) (cluster : ℕ) → AreFew s → events_refusal s ≡ None → IsNextCluster s.queue s.finished cluster → is_used s.queue s.finished cluster ≡ false
+pub free_next : (s : PoolState) (cluster : ℕ) → AreFew s → events_refusal s ≡ None → IsNextCluster s.queue s.finished cluster → is_used s.queue s.finished cluster ≡ false
 free_next s cluster few h next = next_is_free s.queue s.finished cluster few.clusters (few_used (length few.clusters) s.events few.few (few_events s h)) few.all next
 
 pub submit_keeps : (p : Protocol) (s new : PoolState) (r : Stepped) (boot : ℕ) (jobs : List Attributes) (reading : ℕ) → IsKept p s → AreFew s → IsGiven (event.Submit boot jobs reading) s
     → IsRefusal (event.Submit boot jobs reading) s None → Happens (event.Submit boot jobs reading) s new r → GoesOn p (IsStepOf (event.Submit boot jobs reading) s) (at_reading reading new)
 unfolding Happens
-submit_keeps p s new r boot jobs reading kept few idle accepted does =
+submit_keeps p s new r boot jobs reading kept few given accepted does =
     subst (λ (x : PoolState). GoesOn p (IsStepOf (event.Submit boot jobs reading) s) (at_reading reading x)) (sym does.pool)
-    (unused_goes p (IsStepOf (event.Submit boot jobs reading) s) s does.cluster jobs reading refl kept (submit_idle boot (length jobs) s (sym free.1)) idle
+    (unused_goes p (IsStepOf (event.Submit boot jobs reading) s) s does.cluster jobs reading refl kept (submit_idle boot (length jobs) s (sym free.1)) given.0
     (free_next s does.cluster few (second_none (closed_refusal s) (events_refusal s) free.0) does.next))
   where
     causes : Option StepError

@@ -5,3 +5,4 @@ pub mod Kept
 pub mod Orders
 pub mod Parts
 pub mod Steps
+pub mod Unfinished

@@ -1,6 +1,7 @@
 // A pool that is open, with its rolls.
 
 ghost use Rattle.std.specs.Prelude.{◌≡◌, IfOk, OnOk};
+ghost use Rattle.loggable.specs.Loggable.{IsRoomy};
 ghost use Rattle.pool_lines.specs.Marks.{IsGivenBy};
 ghost use Rattle.pool_script.specs.Driven.{IsDriven, is_of};
 ghost use Rattle.pool_state.specs.Openings.{CanOpen, IsOpenedBy};
@@ -136,7 +137,8 @@ impl OpenPool {
     }
 
     /// The event that a case says, but for `close`. Computes in O(bytes); of `submit-many` in
-    /// O(attributes) for each job; of `receive` and `matches` as `judge` and the pool's `wants`.
+    /// O(size of the ad) for each job; of `receive` and `matches` as `judge` and the pool's
+    /// `wants`.
     pub fn read_event(&mut self, alloc: Global, case: Case<'_>) -> Result<Event, CaseError>
         ensures marks { self.new ≡ self.old }
         ensures given { IfOk result (IsGivenBy self.old) }
@@ -262,6 +264,7 @@ fn open_with(alloc: Global, setup: SetUp, rolls: &Rolls) -> Result<Pool, CaseErr
 }
 
 fn open_opening(alloc: Global, opening: Opening, fault: CaseError) -> Result<Pool, CaseError>
+    requires { IsRoomy opening.queue }
     ensures can { OnOk result (CanOpen opening) }
     ensures opened { IfOk result (IsOpenedBy opening) }
 {

@@ -4,7 +4,9 @@ use Rattle.desk.specs.declared.entry.Entry.{Entry}
 use Rattle.desk.specs.Entries.{entry_of}
 use Rattle.desk.specs.Given.{IsGivenBy, IsOwn}
 use Rattle.desk.specs.Kinds.{IsKindOf}
+use Rattle.desk.specs.Logs.{IsLoggedQueue}
 use Rattle.desk.specs.Passes.{Fits}
+use Rattle.loggable.specs.Answers.{CanAppend}
 use Rattle.pool_event.specs.declared.answer.Kept.{Kept}
 use Rattle.pool_event.specs.declared.answer.Stepped.{Stepped}
 use Rattle.pool_event.specs.declared.event.Event.{Event}
@@ -16,11 +18,12 @@ use Rattle.pool_outer.specs.declared.gate.Daemon.TheVariants.{Schedd, Startd, Ma
 use Rattle.pool_passes.specs.Standing.{HasRoll, Stands, end_mark_of, logged_before, mark_or}
 use Rattle.pool_passes.proofs.Answered.{keeps_answer, kind_of}
 use Rattle.pool_passes.proofs.GivenByMarks.{own_given}
-use Rattle.pool_passes.proofs.Passes.{own_before, own_fits, own_stands}
+use Rattle.pool_passes.proofs.Passes.{own_before, own_fits, own_queue, own_stands}
 use Rattle.pool_passes.proofs.Rolls.{HasSameRolls, rolls_same}
 use Rattle.pool_refusals.specs.Refusals.{IsRefusal}
 use Rattle.pool_state.specs.declared.state.PoolState.{PoolState}
 use Rattle.pool_tables.specs.DaemonTables.{daemon_state}
+use Rattle.queue_tx.specs.Queues.{KeyedAds}
 use Rattle.receipt_roll.specs.Values.{RollMark}
 use Rattle.sole_desk.specs.SolePasses.{HasHolder, HasOneMore, SolePassValue, StandsHere}
 
@@ -51,11 +54,13 @@ pub record Accepted (p : SolePassValue) (items : List Entry) (new : PoolState) (
   pub reacts : Reacts p.pool e (answered r.answer) new
   pub kind : IsKindOf e r.answer
   pub fits : Fits (logged_before p.mine p.pool) p.mine r.answer
+  pub appends : CanAppend p.pool.queue r.answer
+  pub queue : (first : KeyedAds) → IsLoggedQueue first p.mine p.pool.queue → IsLoggedQueue first items new.queue
   pub gained : HasOneMore p.mine p.pool e r.answer items
 
-pub accepted : (p : SolePassValue) (items : List Entry) (new : PoolState) (e : Event) (r : Stepped) → StandsHere p.holder p.mine p.pool → IsOwn p.holder e → IsRefusal e p.pool None → Reacts p.pool e r new
+pub accepted : (p : SolePassValue) (items : List Entry) (new : PoolState) (e : Event) (r : Stepped) → StandsHere p.holder p.mine p.pool → IsOwn p.holder e → IsRefusal e p.pool None → Reacts p.pool e r new → CanAppend p.pool.queue r.answer
     → items ≡ p.mine ++ entry_of p.pool.events e r.kept ∷ [] → Accepted p items new e r
-accepted p items new e r here own free reacts is =
+accepted p items new e r here own free reacts appends is =
     let place : ℕ = p.pool.events in
     let same = rolls_same p.pool new e r reacts in
     record {
@@ -70,6 +75,8 @@ accepted p items new e r here own free reacts is =
       reacts = subst (λ (x : Stepped). Reacts p.pool e x new) (λ i. record { answer = r.answer; kept = keeps_answer p.pool new e r reacts i }) reacts;
       kind = kind_of p.pool new e r reacts;
       fits = own_fits p.holder p.mine p.pool new e r own free reacts here.stands;
+      appends = appends;
+      queue = λ first before. subst (λ (xs : List Entry). IsLoggedQueue first xs new.queue) (sym is) (own_queue p.holder p.mine p.pool new e r place first own free reacts here.stands before);
       gained = is ∙ ap (λ (k : Kept). p.mine ++ entry_of place e k ∷ []) (keeps_answer p.pool new e r reacts);
     }
 

@@ -1,5 +1,5 @@
 -- What a desk answers whose pool is known, and why it refuses an event.
-use Rattle.std.specs.Prelude.{◌≡◌, ◌≢◌, ◌⊎◌, ℕ, Bool, true, Option, Some, Result, IfErr, IfOk, IfSome}
+use Rattle.std.specs.Prelude.{◌≡◌, ◌≢◌, ◌⊎◌, ℕ, Bool, true, Option, Some, Result, IfErr, IfOk, IfSome, IsErrOf}
 use Rattle.claim_id.specs.declared.numbers.JobId.{JobId}
 use Rattle.pool_core.specs.Refused.{IsRefused}
 use Rattle.pool_event.specs.declared.event.Event.{Event}
@@ -24,6 +24,7 @@ pub record IsMailHere (who : Daemon) (index : ℕ) (s : PoolState) (answer : Res
     : Type 0 where
   pub mail : IfOk answer (IsMailTo who index s.mails)
   pub refused : IfErr answer (λ e. e ≢ Memory → mail_error who index s.mails ≡ Some e)
+  pub cause : IfSome (mail_error who index s.mails) (λ e. IsErrOf answer e)
 
 abbrev pub IsNextHere : Daemon → ℕ → PoolState → Option ℕ → Type 0
 IsNextHere who from s answer = IsOfPool who s.mails → IsNextMail who from s.mails answer

@@ -10,7 +10,6 @@ use Rattle.pool_outer.specs.declared.gate.Daemon.TheVariants.{Startd}
 use Rattle.pool_passes.specs.Standing.{HasRoll, Stands}
 use Rattle.pool_state.specs.declared.state.PoolState.{PoolState}
 use Rattle.pool_tables.specs.DaemonTables.{daemon_state}
-use Rattle.startd_core.specs.Sound.{IsSound}
 use Rattle.startd_core.specs.Startds.{StartdValue}
 use Rattle.startd_slot.specs.declared.slot.Slot.{Slot}
 use Rattle.startd_slot.specs.SlotStates.{running_of}
@@ -36,18 +35,17 @@ pub record StandsHere (holder : Option Daemon) (mine : List Entry) (s : PoolStat
   pub stands : Stands holder mine s
 
 -- no slot of the machine has a run
-pub record IsAtRest (v : StartdValue) : Type 0 where
-  pub sound : IsSound v
-  pub none : (place : ℕ) (slot : Slot) → slice_get v.slots place ≡ Some slot
-      → running_of slot.state ≡ None
+abbrev pub IsAtRest : StartdValue → Type 0
+IsAtRest v = (place : ℕ) (slot : Slot) → slice_get v.slots place ≡ Some slot
+    → running_of slot.state ≡ None
 
 abbrev pub IsFree : Option Daemon → PoolState → Type 0
 IsFree (Some (Startd machine)) s =
     (v : StartdValue) → slice_get s.machines machine ≡ Some v → IsAtRest v
 IsFree _ s = Unit {0}
 
--- What a holder's pool has to be: it has the holder, no transaction is unfinished, and nothing runs
--- on the holder's machine.
+-- What a holder's pool has to be: it has the holder and its roll, no transaction is unfinished, and
+-- nothing runs on the holder's machine.
 pub record CanHold (holder : Option Daemon) (s : PoolState) : Type 0 where
   pub there : HasHolder holder s
   pub roll : HasRoll holder s

@@ -1,6 +1,7 @@
 //! A desk with one holder, whose pass has the pool.
 #![tactic(auto)]
 
+pub mod laws;
 mod pass;
 mod sole;
 

@@ -1,11 +1,14 @@
 ghost use Rattle.std.specs.Prelude.{◌≡◌, ◌||◌, [], false, None, IfErr, IfOk, OnErr, OnOk};
 ghost use Rattle.desk.specs.Given.{IsGivenBy, IsOwn};
 ghost use Rattle.desk.specs.Kinds.{IsKindOf};
+ghost use Rattle.desk.specs.Logs.{IsLoggedQueue};
 ghost use Rattle.desk.specs.Passes.{Fits, is_closed, says_closed};
+ghost use Rattle.loggable.specs.Answers.{CanAppend};
 ghost use Rattle.pool_moves.specs.Answers.{answered};
 ghost use Rattle.pool_moves.specs.Happens.{Reacts};
 ghost use Rattle.pool_passes.specs.Standing.{end_mark_of, logged_before};
 ghost use Rattle.pool_refusals.specs.Refusals.{IsRefusal};
+ghost use Rattle.queue_tx.specs.Queues.{KeyedAds};
 ghost use Rattle.sole_desk.specs.Answers.{IsRefusedHere};
 ghost use Rattle.sole_desk.specs.SolePasses.{CanHold, HasHolder, HasOneMore};
 
@@ -67,6 +70,7 @@ impl SolePass {
         ensures { result
             ≡ record { holder = holder; mine = []; closed = false; pool = pool } }
     {
+        pool.safety();
         SolePass {
             holder,
             pool,
@@ -121,8 +125,11 @@ impl SolePass {
         ensures kind { IfOk result (IsKindOf event) }
         ensures fits { IfOk result
             (Fits (logged_before self.old.mine self.old.pool) self.old.mine) }
+        ensures appends { IfOk result (CanAppend self.old.pool.queue) }
         ensures gained { IfOk result
             (λ a. HasOneMore self.old.mine self.old.pool event a self.new.mine) }
+        ensures queue { (q : KeyedAds) → IsLoggedQueue q self.old.mine self.old.pool.queue
+            → IsLoggedQueue q self.new.mine self.new.pool.queue }
         ensures refused { OnErr result (self.new.mine ≡ self.old.mine) }
         ensures closed { self.new.closed ≡ (says_closed result || self.old.closed) }
     {

@@ -30,6 +30,8 @@ impl Desk for SoleDesk {
 
     ghost first = { λ p. logged_before p.mine p.pool };
 
+    ghost queue = { λ p. p.pool.queue };
+
     ghost log_mark = { λ p. p.pool.log_mark };
 
     ghost end_mark = { λ p. end_mark_of p.holder p.pool };

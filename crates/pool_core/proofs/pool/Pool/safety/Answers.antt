@@ -20,3 +20,9 @@ returns-clause-bytes c = let k = subst IsKeptPool c.self.view_is c.self.invarian
 
 pub returns-clause-within : goal.returns-clause-within
 returns-clause-within c = let k = subst IsKeptPool c.self.view_is c.self.invariant in k.within
+
+pub returns-clause-loggable : goal.returns-clause-loggable
+returns-clause-loggable c = let k = subst IsKeptPool c.self.view_is c.self.invariant in k.loggable
+
+pub returns-clause-finishes : goal.returns-clause-finishes
+returns-clause-finishes c = let k = subst IsKeptPool c.self.view_is c.self.invariant in k.finishes

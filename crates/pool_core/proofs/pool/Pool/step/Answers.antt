@@ -1,18 +1,19 @@
-use Rattle.std.proofs.Common.{OnOk, sym, subst}
+use Rattle.std.proofs.Common.{OnOk, IfOk, sym, subst}
+use Rattle.loggable.specs.Answers.{CanAppend}
 use Rattle.pool_moves.specs.Deeds.{at_rest}
 use Rattle.pool_moves.specs.Given.{IsGiven}
 use Rattle.pool_safety.specs.Histories.{MovesView}
 use Rattle.pool_state.specs.declared.state.PoolState.{PoolState}
 use Rattle.pool_safety.specs.Counted.{CountsBytes}
 use Rattle.pool_core.proofs.CountedSteps.{step_counts}
-use Rattle.pool_core.proofs.Keeping.{step_kept, step_launches, step_moves}
+use Rattle.pool_core.proofs.Keeping.{step_appends, step_kept, step_launches, step_moves}
 use Rattle.pool_core.proofs.pool.Pool.step.Goals as goal
 
 pub invariant_of-self : goal.invariant_of-self
 invariant_of-self c =
     let event = c.args.event.now in
     let given = subst (λ (s : PoolState). IsGiven event s) (sym c.self.view_is) c.requires.given in
-    step_kept event (at_rest c.self.inside.state) (at_rest c.step.new.state) c.step.result c.self.invariant given c.step.ensures.accepted c.step.ensures.reacts c.step.ensures.within c.step.ensures.same
+    step_kept event (at_rest c.self.inside.state) (at_rest c.step.new.state) c.step.result c.self.invariant given c.step.ensures.accepted c.step.ensures.reacts c.step.ensures.within c.step.ensures.short c.step.ensures.same
 
 pub returns-clause-moves : goal.returns-clause-moves
 returns-clause-moves c =
@@ -26,6 +27,16 @@ returns-clause-launches c =
     let event = c.args.event.now in
     let given = subst (λ (s : PoolState). IsGiven event s) (sym c.self.view_is) c.requires.given in
     step_launches event (at_rest c.self.inside.state) (at_rest c.step.new.state) c.step.result c.self.invariant given c.step.ensures.accepted c.step.ensures.reacts
+
+pub returns-clause-appends : goal.returns-clause-appends
+returns-clause-appends c =
+    let event = c.args.event.now in
+    let given = subst (λ (s : PoolState). IsGiven event s) (sym c.self.view_is) c.requires.given in
+    let s = at_rest c.self.inside.state in
+    let new = at_rest c.step.new.state in
+    let kept = step_kept event s new c.step.result c.self.invariant given c.step.ensures.accepted c.step.ensures.reacts c.step.ensures.within c.step.ensures.short c.step.ensures.same in
+    subst (λ (x : PoolState). IfOk c.step.result (λ r. CanAppend x.queue r.answer)) c.self.view_is
+    (step_appends event s new c.step.result kept c.step.ensures.reacts)
 
 pub returns-clause-counted : goal.returns-clause-counted
 returns-clause-counted c =

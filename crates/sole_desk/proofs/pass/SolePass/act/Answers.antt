@@ -12,7 +12,7 @@ old : (c : goal.After-drop-event-in-Ok) → Accepted (record { holder = c.self.i
 old c =
     let p : SolePassValue = record { holder = c.self.inside.holder; mine = c.self.inside.entries.items; closed = c.self.inside.closed; pool = c.self.inside.pool } in
     accepted p c.push_reserved.new.self.items c.step.new.self c.args.event c.in-Ok.field-0 c.self.invariant
-    (subst (λ (p : SolePassValue). IsOwn p.holder c.args.event) (sym c.self.view_is) c.requires.own) c.in-Ok.ensures.accepted c.in-Ok.ensures.reacts
+    (subst (λ (p : SolePassValue). IsOwn p.holder c.args.event) (sym c.self.view_is) c.requires.own) c.in-Ok.ensures.accepted c.in-Ok.ensures.reacts c.in-Ok.ensures.appends
     (c.push_reserved.ensures.items ∙ (ap (λ (xs : List Entry). xs ++ c.new.result ∷ []) c.reserve.ensures.items ∙ ap (λ (x : Entry). c.self.inside.entries.items ++ x ∷ []) (c.new.ensures ∙ ap (λ n. entry_of n c.args.event c.in-Ok.field-0.kept) c.events-place.ensures)))
 
 now : (c : goal.After-drop-event-in-Ok) → Accepted c.args.self.now c.push_reserved.new.self.items c.step.new.self c.args.event c.in-Ok.field-0
@@ -42,6 +42,12 @@ returns-in-Ok-clause-kind c = (old c).kind
 
 pub returns-in-Ok-clause-fits : goal.returns-in-Ok-clause-fits
 returns-in-Ok-clause-fits c = (now c).fits
+
+pub returns-in-Ok-clause-appends : goal.returns-in-Ok-clause-appends
+returns-in-Ok-clause-appends c = (now c).appends
+
+pub returns-in-Ok-clause-queue : goal.returns-in-Ok-clause-queue
+returns-in-Ok-clause-queue c = (now c).queue
 
 pub returns-in-Ok-clause-gained : goal.returns-in-Ok-clause-gained
 returns-in-Ok-clause-gained c = (now c).gained

@@ -1,0 +1,8 @@
+use Rattle.std.proofs.Common.{refl}
+use Rattle.pool_lines.proofs.Logging.{printable_from}
+use Rattle.pool_lines.proofs.loggable_jobs.is_printable.Goals as goal
+
+pub loop-place-preserved : goal.loop-place-preserved
+loop-place-preserved c = λ rest.
+    c.loop-place.invariant
+    (printable_from c.args.job.now c.loop-place.place (c.if-not-is_printable_at.ensures refl) rest)

@@ -1,0 +1,76 @@
+// Which jobs can be logged as they are submitted.
+
+ghost use Rattle.std.specs.Prelude.{◌≡◌, IfSome, IsTrue, slice_get};
+ghost use Rattle.ad_tree.specs.Tree.{tree};
+ghost use Rattle.claim_id.specs.declared.numbers.JobId.{JobId};
+ghost use Rattle.loggable.specs.Loggable.{AreLoggableJobs, HasRoom, IsLoggableJob};
+ghost use Rattle.pool_lines.specs.Logged.{IsPrintableAttribute};
+ghost use Rattle.queue_tx.specs.declared.key.Key.TheVariants.{Proc};
+ghost use Rattle.queue_tx.specs.Printable.{IsPrintableAd, IsPrintableTree};
+
+use ad_parse::{parse_expr, print_expr};
+use ad_token::is_name;
+use ad_tree::{Ad, Expr};
+use queue_tx::MAX_OWN_OF_PROC;
+use std::alloc::Global;
+
+/// Whether each of these jobs can be logged; no where memory runs out. Computes in O(size of the
+/// ads, and of their texts).
+pub(crate) fn are_loggable(alloc: Global, jobs: &[Ad]) -> bool
+    ensures { IsTrue result → AreLoggableJobs jobs.now }
+{
+    for job in jobs {
+        if !is_loggable(alloc, job) {
+            return false;
+        }
+    }
+    true
+}
+
+fn is_loggable(alloc: Global, job: &Ad) -> bool
+    ensures { IsTrue result → IsLoggableJob job.now }
+{
+    has_room(job) && is_printable(alloc, job)
+}
+
+// Whether it has few attributes, of whatever names.
+#[tactic(auto, using(crate::proofs::Logging::room_of_few))]
+fn has_room(job: &Ad) -> bool
+    ensures { IsTrue result → (id : JobId) → HasRoom (Proc id) job.now }
+{
+    job.len() <= MAX_OWN_OF_PROC
+}
+
+// Whether a text can say each of its attributes.
+fn is_printable(alloc: Global, job: &Ad) -> bool
+    ensures { IsTrue result → IsPrintableAd job.now }
+{
+    for place in 0..job.len() {
+        if !is_printable_at(alloc, job, place) {
+            return false;
+        }
+    }
+    true
+}
+
+fn is_printable_at(alloc: Global, job: &Ad, place: usize) -> bool
+    ensures { IsTrue result → IfSome (slice_get job.now place) IsPrintableAttribute }
+{
+    match job.attribute(place) {
+        Some((name, expr)) => is_name(name) && says_itself(alloc, expr),
+        None => true,
+    }
+}
+
+// Whether an expression's canonical text says it.
+fn says_itself(alloc: Global, expr: &Expr) -> bool
+    ensures { IsTrue result → IsPrintableTree (tree expr.now) }
+{
+    let Ok(text) = print_expr(alloc, expr) else {
+        return false;
+    };
+    match parse_expr(alloc, text.as_str()) {
+        Ok(read) => read.same(expr),
+        Err(_) => false,
+    }
+}
