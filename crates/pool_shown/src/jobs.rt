@@ -15,16 +15,16 @@ use pool_jobs::jobs_of_kind;
 use pool_past::Finished;
 use pool_view::{Entry, JobEntry, JobEntryList};
 use queue_tx::{JobKind, Key, Queue};
-use schedd_table::is_left;
+use schedd_table::{LeftJobs, is_left};
 use std::alloc::Global;
 
 /// The jobs of a queue, of which some were left by an earlier boot of the pool, by kind and in
-/// order, and then those that have left it. Computes in O(jobs times (log jobs + jobs left)), and
-/// O(attributes) for each.
+/// order, and then those that have left it. Computes in O(jobs times (log jobs + log jobs left)),
+/// and O(attributes) for each.
 pub fn shown_jobs(
     alloc: Global,
     queue: &Queue,
-    left: &[JobId],
+    left: &LeftJobs,
     finished: &Finished,
 ) -> Result<JobEntryList, Memory>
     ensures { IfOk result (λ entries. (read : List ℕ → Option ClaimId) → IsReader read
@@ -45,7 +45,7 @@ fn push_jobs(
     alloc: Global,
     entries: &mut JobEntryList,
     queue: &Queue,
-    left: &[JobId],
+    left: &LeftJobs,
     jobs: &[JobId],
 ) -> Result<(), Memory>
     ensures { IfOk result (λ _. (read : List ℕ → Option ClaimId) → IsReader read
@@ -61,7 +61,7 @@ fn push_job(
     alloc: Global,
     entries: &mut JobEntryList,
     queue: &Queue,
-    left: &[JobId],
+    left: &LeftJobs,
     job: JobId,
 ) -> Result<(), Memory>
     ensures { IfOk result (λ _. (read : List ℕ → Option ClaimId) → IsReader read

@@ -24,8 +24,8 @@ fn copied_list<T: Copy>(alloc: Global, list: &LinkedList<T, Global>) -> Result<S
 }
 
 impl PoolState {
-    /// The abstract pool that the pool stands for. Computes in O(jobs * (log jobs + jobs left) +
-    /// slots + reports), and O(attributes) for each job; the other ads share their attributes.
+    /// The abstract pool that the pool stands for. Computes in O(jobs * (log jobs + log jobs left)
+    /// + slots + reports), and O(attributes) for each job; the other ads share their attributes.
     pub fn view(&self, alloc: Global) -> Result<View, Memory>
         ensures { IfOk result (λ view. (read : List ℕ → Option ClaimId) → IsReader read
             → IsViewOf read self.now view) }

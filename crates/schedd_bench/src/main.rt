@@ -55,7 +55,7 @@ fn time_crowd(rt: &HostRuntime, crowd: Crowd, what: &str, count: u32) -> Result<
 fn time_schedd(rt: &HostRuntime, before: &Queue, queue: &Queue, what: &str) -> Result<()> {
     let mut schedd = back_again(rt.alloc(), before, queue)?;
     let runs = schedd.runs().len();
-    let left = schedd.left().len();
+    let left = schedd.left().to_vec(rt.alloc())?.len();
     println!(rt; "{what}: {runs} runs, {left} left")?;
     time_due(rt, &schedd, queue)?;
     time_ticks(rt, &mut schedd, queue)?;

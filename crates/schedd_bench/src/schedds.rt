@@ -31,7 +31,7 @@ const SETTINGS: Settings = Settings {
 pub(crate) fn back_again(alloc: Global, before: &Queue, queue: &Queue) -> Result<Schedd, Memory> {
     let mut schedd = Schedd::new(alloc, before, SETTINGS)?;
     let _nothing = reopen(&mut schedd, alloc, queue, BACK)?;
-    for _ in schedd.left().len()..8 {
+    for _ in schedd.left().to_vec(alloc)?.len()..8 {
         tick_and_log(alloc, &mut schedd, queue, BACK)?;
     }
     Ok(schedd)

@@ -19,9 +19,8 @@ use Rattle.schedd_plan.specs.declared.plan.JobPlan.TheVariants as plan
 use Rattle.schedd_plan.specs.Plans.{job_of, plan_ops}
 use Rattle.schedd_table.specs.declared.claims.KeptClaim.{KeptClaim}
 use Rattle.schedd_table.specs.declared.runs.KeptRun.{KeptRun}
-use Rattle.schedd_table.specs.JobPlaces.{is_left}
+use Rattle.schedd_table.specs.JobPlaces.{is_left, taken_off}
 use Rattle.schedd_core.specs.JobStates.{NamesRun}
-use Rattle.schedd_state.specs.Leaving.{taken_off}
 use Rattle.schedd_core.specs.Logging.{after_plan}
 use Rattle.schedd_state.specs.Reopening.{is_under_kind, under_by, is_under_at}
 use Rattle.schedd_core.specs.ScheddParts.{IsUnderRun, AreOfDifferentJobs, FitsWith, Fits, IsThere, IsFitting}

@@ -23,7 +23,7 @@ use std::alloc::Global;
 
 /// A look at the periodic expressions of a job. The queue is the one as logged, and no
 /// transaction is unfinished. After an error the schedd is as it was. Computes in O(log jobs +
-/// jobs left), and the evaluation of up to three expressions.
+/// log jobs left), and the evaluation of up to three expressions.
 pub fn check(
     schedd: &mut Schedd,
     alloc: Global,

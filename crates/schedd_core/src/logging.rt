@@ -22,7 +22,7 @@ use schedd_table::{ad_of, place_of_job};
 use std::alloc::Global;
 
 /// What waited is logged; the queue is the one that came of it. Memory too where the next run's
-/// number is 2 to the 64. After an error the schedd is as it was. Computes in O(runs + jobs
+/// number is 2 to the 64. After an error the schedd is as it was. Computes in O(runs + log jobs
 /// left + log jobs).
 pub fn logged(schedd: &mut Schedd, alloc: Global, queue: &Queue) -> Result<ScheddStep, Memory>
     ensures schedd { IfOk result (λ _. schedd.new

@@ -23,8 +23,8 @@ use schedd_table::{
 use std::alloc::Global;
 
 /// A mail is received; the queue is the one as logged, and no transaction is unfinished. After
-/// an error the schedd is as it was. Computes in O(claims + runs + jobs left + log jobs), and
-/// an evaluation of OnExitHold and OnExitRemove for the end of a run.
+/// an error the schedd is as it was. Computes in O(claims + runs + log jobs left + log jobs),
+/// and an evaluation of OnExitHold and OnExitRemove for the end of a run.
 pub fn receive(
     schedd: &mut Schedd,
     alloc: Global,

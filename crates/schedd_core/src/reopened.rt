@@ -20,13 +20,13 @@ use schedd_state::{
     ClaimsChange, LeftChange, LooksChange, PreparedSchedd, RunsChange, Schedd, ScheddChange,
     ScheddStep, under_jobs,
 };
-use schedd_table::{KeptClaim, KeptRun, Stage, ad_of, is_left};
+use schedd_table::{KeptClaim, KeptRun, LeftJobs, Stage, ad_of, is_left};
 use std::alloc::Global;
 
 /// The schedd comes back after a crash, with the queue as logged: what waited is in it, or is
 /// lost. Of what it knew it has the jobs that an earlier boot left, and the next run's number.
-/// After an error the schedd is as it was. Computes in O(jobs under a claim times log jobs, and
-/// times jobs left).
+/// After an error the schedd is as it was. Computes in O((jobs under a claim + jobs left) times
+/// log jobs).
 pub fn reopen(
     schedd: &mut Schedd,
     alloc: Global,
@@ -113,7 +113,7 @@ fn run_found(ad: &Ad, job: JobId, reading: u64) -> Option<KeptRun>
 }
 
 // The run of a job that wasn't left.
-fn found_run(queue: &Queue, left: &[JobId], job: JobId, reading: u64) -> Option<KeptRun>
+fn found_run(queue: &Queue, left: &LeftJobs, job: JobId, reading: u64) -> Option<KeptRun>
     ensures { (read : List ℕ → Option ClaimId) → IsReader read
         → result ≡ found_run read queue.now left.now reading job }
 {
@@ -137,7 +137,7 @@ fn found_runs(
     alloc: Global,
     queue: &Queue,
     jobs: &[JobId],
-    left: &[JobId],
+    left: &LeftJobs,
     reading: u64,
 ) -> Result<Vec<KeptRun>, Memory>
     ensures { (read : List ℕ → Option ClaimId) → IsReader read → IfOk result (λ runs.
@@ -209,16 +209,19 @@ fn is_under_kind(kind: Option<JobKind>) -> bool
 }
 
 // The jobs that were left and weren't let go.
-fn still_left(alloc: Global, queue: &Queue, left: &[JobId]) -> Result<Vec<JobId>, Memory>
-    ensures { IfOk result (λ jobs. jobs.items ≡ still_left queue.now left.now) }
+fn still_left(alloc: Global, queue: &Queue, left: &LeftJobs) -> Result<LeftJobs, Memory>
+    ensures { IfOk result (λ jobs. jobs ≡ still_left queue.now left.now) }
 {
-    let mut jobs = Vec::new(alloc);
-    for job in left {
-        if is_under_at(queue, *job) {
-            jobs.push(*job)?;
-        }
-    }
-    Ok(jobs)
+    let mut jobs = left.to_vec(alloc)?;
+    keep_under(queue, &mut jobs);
+    LeftJobs::of(alloc, &jobs)
+}
+
+// Of the jobs those that are under a claim.
+fn keep_under(queue: &Queue, jobs: &mut Vec<JobId>)
+    ensures { jobs.new.items ≡ still_left queue.now jobs.old.items }
+{
+    jobs.retain(|job| is_under_at(queue, *job));
 }
 
 // The number of the run that is granted next, where it was `next` and a plan waited. Memory too

@@ -2,6 +2,9 @@
 use Rattle.std.proofs.Common.{◌≡◌, ℕ, ◌+◌, ◌<◌, ◌≤◌, suc, true, false, Bool, cond, List, [], ◌∷◌, ◌++◌, length, append_assoc, Option, Some, None, is_some, option_map, refl, ap, sym, ◌∙◌, subst, arith}
 use Rattle.std.specs.declared.ops.Bound.{Bound}
 use denote.Ref.{Bor}
+use Rattle.std.specs.declared.cmp.Ordering.TheVariants.{Less}
+use Rattle.std.specs.List.{AllByRecursion}
+use Rattle.std.specs.List.Sorted.{IsStrictlySortedBy}
 use Rattle.std.specs.Ordering.{is_lt}
 use Rattle.claim_id.specs.declared.numbers.JobId.{JobId}
 use Rattle.ordered_map.specs.Trees.{is_past}
@@ -12,6 +15,8 @@ use Rattle.queue_tx.specs.Keys.{key_cmp}
 use Rattle.queue_tx.specs.Jobs.{FirstKey, IsJobOf}
 use Rattle.queue_tx.specs.Queues.{KeyedAds}
 use Rattle.queue_tx.proofs.Asking.{above_count, fewer, job_is_there}
+use Rattle.schedd_table.specs.LeftOrder.{AreInOrder, job_cmp}
+use Rattle.schedd_table.proofs.LeftLists.{above_less, is_less}
 use Rattle.schedd_state.specs.Searches.{is_later, IsNextUnder, NoneUnder, NextUnder, AreUnder}
 
 pub next_from : (q : KeyedAds) (last : Option JobId) (start : Bound (Bor Key)) (found : Option JobId)
@@ -67,3 +72,20 @@ pub listed_end : (q : KeyedAds) (last : Option JobId) (jobs : List JobId) (found
     → IsListed q last jobs → NextUnder q last found → is_some found ≡ false → AreUnder q None jobs
 listed_end q last jobs None listed none end = listed_all q last jobs listed none
 listed_end q last jobs (Some job) listed next end = cc
+
+-- ---- each comes before those after it
+
+all_after : (q : KeyedAds) (job : JobId) (jobs : List JobId) → AreUnder q (Some job) jobs
+    → AllByRecursion (λ other. job_cmp job other ≡ Less) jobs
+all_after q job [] under = tt
+all_after q job (next ∷ jobs) under =
+    let less = is_less (job_cmp job next) under.0.later in
+    (less, above_less job next jobs less (all_after q next jobs under.1))
+
+under_behind : (q : KeyedAds) (last : Option JobId) (jobs : List JobId) → AreUnder q last jobs → AreInOrder jobs
+unfolding IsStrictlySortedBy
+under_behind q last [] under = tt
+under_behind q last (job ∷ jobs) under = (all_after q job jobs under.1, under_behind q (Some job) jobs under.1)
+
+pub under_in_order : (q : KeyedAds) (jobs : List JobId) → AreUnder q None jobs → AreInOrder jobs
+under_in_order q jobs under = under_behind q None jobs under

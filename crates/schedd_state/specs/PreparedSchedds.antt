@@ -9,6 +9,7 @@ use Rattle.queue_tx.specs.declared.key.Key.TheVariants.{Proc}
 use Rattle.queue_tx.specs.Keys.{key_cmp, same_key}
 use Rattle.schedd_table.specs.declared.claims.KeptClaim.{KeptClaim}
 use Rattle.schedd_table.specs.declared.runs.KeptRun.{KeptRun}
+use Rattle.schedd_table.specs.JobPlaces.{taken_off}
 use Rattle.schedd_table.specs.KeptClaims.{with_stage, with_job, claims_without}
 use Rattle.schedd_table.specs.KeptRuns.{runs_without, with_alive}
 use Rattle.schedd_table.specs.MailTable.{after_fate}
@@ -22,14 +23,14 @@ use Rattle.schedd_state.specs.declared.change.RunsChange.{RunsChange}
 use Rattle.schedd_state.specs.declared.change.RunsChange.TheVariants as runs
 use Rattle.schedd_state.specs.declared.change.ScheddChange.{ScheddChange}
 use Rattle.schedd_state.specs.declared.prepared.PreparedSchedd.{PreparedSchedd}
-use Rattle.schedd_state.specs.Leaving.{left_claims, taken_off}
+use Rattle.schedd_state.specs.Leaving.{left_claims}
 use Rattle.schedd_state.specs.Schedds.{ScheddValue}
 
 -- ---- part by part
 abbrev pub left_after : LeftChange → List JobId → List JobId
 left_after left.Same jobs = jobs
 left_after (left.TakeOff job) jobs = taken_off job jobs
-left_after (left.All list) jobs = list.items
+left_after (left.All list) jobs = list
 
 abbrev pub claims_after : ClaimsChange → List KeptClaim → List KeptClaim
 claims_after claims.Same cs = cs

@@ -5,13 +5,12 @@ ghost use Rattle.schedd_state.specs.PreparedSchedds.{CanPut, claims_after, left_
 
 use crate::looks::Looks;
 use crate::new_look::NewLook;
-use crate::schedd::take_off;
 use claim_id::{ClaimNo, JobId};
 use queue_tx::Key;
 use schedd_plan::JobPlan;
 use schedd_table::{
-    Fate, KeptClaim, KeptRun, Stage, place_of_claim, remove_claim, remove_run, set_alive, set_job,
-    set_stage, settle_claim,
+    Fate, KeptClaim, KeptRun, LeftJobs, Stage, place_of_claim, remove_claim, remove_run, set_alive,
+    set_job, set_stage, settle_claim,
 };
 use std::mem::replace;
 
@@ -21,7 +20,7 @@ pub enum LeftChange {
     /// A job is no longer one of them.
     TakeOff(JobId),
     /// They are these.
-    All(Vec<JobId>),
+    All(LeftJobs),
 }
 
 impl Drop for LeftChange {
@@ -155,12 +154,12 @@ pub struct ScheddChange {
 }
 
 impl LeftChange {
-    pub(crate) fn commit(self, left: &mut Vec<JobId>)
-        ensures { left.new.items ≡ left_after self left.old.items }
+    pub(crate) fn commit(self, left: &mut LeftJobs)
+        ensures { left.new ≡ left_after self left.old }
     {
         match self {
             LeftChange::Same => {}
-            LeftChange::TakeOff(job) => take_off(left, job),
+            LeftChange::TakeOff(job) => left.take_off(job),
             LeftChange::All(jobs) => *left = jobs,
         }
     }

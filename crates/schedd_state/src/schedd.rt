@@ -1,14 +1,12 @@
 // The schedd as a value, and what may be asked of it.
 
-ghost use Rattle.std.specs.Prelude.{◌≡◌, ◌∷◌, [], None, Some, true, not, IfOk, IfSome, slice_get};
-ghost use Rattle.pool_view.specs.Numbers.{same_job};
+ghost use Rattle.std.specs.Prelude.{◌≡◌, ◌∷◌, [], None, Some, true, IfOk, IfSome, slice_get};
 ghost use Rattle.queue_tx.specs.declared.key.Key.TheVariants.{Proc};
 ghost use Rattle.schedd_table.specs.JobPlaces.{job_place};
 ghost use Rattle.schedd_state.specs.declared.change.LeftChange.TheVariants as of_left;
 ghost use Rattle.schedd_state.specs.declared.change.LooksChange.TheVariants as of_looks;
 ghost use Rattle.schedd_state.specs.DueChecks.{is_check_due, is_unchecked, with_new, IsFirstDue, IsPassed, Passes};
 ghost use Rattle.schedd_state.specs.DueLines.{comes_first, is_act, is_due, line_of_claim, line_of_claims, line_of_place, tick_line};
-ghost use Rattle.schedd_state.specs.Leaving.{taken_off};
 ghost use Rattle.schedd_state.specs.Looks.{IsOldest};
 ghost use Rattle.schedd_state.specs.PreparedSchedds.{CanPut, HasClaimRoom, claims_after, runs_after, schedd_after};
 ghost use Rattle.schedd_state.specs.Schedds.{nothing_done, plans, says, crashed, IsOpened, engages_job};
@@ -19,15 +17,15 @@ use crate::due_checks::{first_due, job_of_key, passed_on};
 use crate::looks::Looks;
 use crate::prepared::PreparedSchedd;
 use crate::run_numbers::first_run;
-use crate::search::under_jobs;
+use crate::search::left_jobs;
 use ad_value::{Copied, Memory};
 use claim_id::JobId;
 use pool_mail::{Mail, Settings};
 use queue_tx::{Key, Queue, has_periodic};
 use schedd_plan::JobPlan;
 use schedd_table::{
-    ClaimLine, JobPlace, KeptClaim, KeptRun, RunLine, TickLine, ad_of, claim_line, due_claim,
-    due_run, engages, is_after, is_before, job_place, run_line,
+    ClaimLine, JobPlace, KeptClaim, KeptRun, LeftJobs, RunLine, TickLine, ad_of, claim_line,
+    due_claim, due_run, engages, is_after, is_before, job_place, run_line,
 };
 use std::alloc::Global;
 use std::marker::Model;
@@ -37,7 +35,7 @@ use std::marker::Model;
 pub struct Schedd {
     settings: Settings,
     next_run: u64,
-    left: Vec<JobId>,
+    left: LeftJobs,
     claims: Vec<KeptClaim>,
     runs: Vec<KeptRun>,
     checked: Looks,
@@ -85,7 +83,7 @@ impl Model for Schedd {
     ghost view = { λ s. record {
       settings = s.settings;
       next_run = s.next_run;
-      left = s.left.items;
+      left = s.left;
       claims = s.claims.items;
       runs = s.runs.items;
       checked = s.checked;
@@ -101,7 +99,7 @@ impl Copied for Schedd {
         Ok(Schedd {
             settings: self.settings,
             next_run: self.next_run,
-            left: Vec::from_slice(alloc, self.left.as_slice())?,
+            left: self.left.copy(alloc)?,
             claims: copy_items(alloc, self.claims.as_slice())?,
             runs: Vec::from_slice(alloc, self.runs.as_slice())?,
             checked: self.checked.copy(alloc)?,
@@ -131,7 +129,7 @@ impl Schedd {
         Ok(Schedd {
             settings,
             next_run: first_run(queue),
-            left: under_jobs(alloc, queue)?,
+            left: left_jobs(alloc, queue)?,
             claims: Vec::new(alloc),
             runs: Vec::new(alloc),
             checked: Looks::new(),
@@ -155,10 +153,10 @@ impl Schedd {
     }
 
     /// The jobs that an earlier boot of the pool left, in order. Computes in O(1).
-    pub fn left(&self) -> &[JobId]
+    pub fn left(&self) -> &LeftJobs
         ensures { result.now ≡ self.now.left }
     {
-        self.left.as_slice()
+        &self.left
     }
 
     /// The number of the run that is granted next. Computes in O(1).
@@ -189,7 +187,7 @@ impl Schedd {
         engages(&self.claims, job)
     }
 
-    /// How a job stands. Computes in O(jobs left + log jobs).
+    /// How a job stands. Computes in O(log jobs left + log jobs), without memory.
     pub fn place(&self, queue: &Queue, job: JobId) -> JobPlace
         ensures { result ≡ job_place queue.now self.now.left job }
     {
@@ -206,13 +204,13 @@ impl Schedd {
         let run = due_run(&self.runs, queue, &self.settings, reading);
         match (self.left.first(), run) {
             (Some(job), Some(place)) => {
-                if self.comes_first(*job, place) {
-                    TickLine::Left { job: *job }
+                if self.comes_first(job, place) {
+                    TickLine::Left { job }
                 } else {
                     self.line_of_run(queue, place, reading)
                 }
             }
-            (Some(job), None) => TickLine::Left { job: *job },
+            (Some(job), None) => TickLine::Left { job },
             (None, Some(place)) => self.line_of_run(queue, place, reading),
             (None, None) => self.line_of_claims(queue, reading),
         }
@@ -463,7 +461,8 @@ impl Schedd {
     // ---- what was prepared
 
     /// What was prepared happens, without memory, which can't fail; what is sent, and is to be
-    /// logged. Computes in O(claims + runs + jobs left + log jobs).
+    /// logged. Computes in O(claims + runs + log jobs left + log jobs), and where the schedd comes
+    /// back in O(jobs left + jobs looked at) more, which are dropped.
     pub fn commit(&mut self, prepared: PreparedSchedd) -> ScheddStep
         requires { HasClaimRoom prepared self.old }
         ensures schedd { self.new ≡ schedd_after prepared self.old }
@@ -496,16 +495,4 @@ fn is_act(line: TickLine) -> bool
         TickLine::Nothing => false,
         _ => true,
     }
-}
-
-fn is_other(other: JobId, job: JobId) -> bool
-    ensures { result ≡ not (same_job other job) }
-{
-    other != job
-}
-
-pub(crate) fn take_off(left: &mut Vec<JobId>, job: JobId)
-    ensures { left.new.items ≡ taken_off job left.old.items }
-{
-    left.retain(|other| is_other(*other, job));
 }

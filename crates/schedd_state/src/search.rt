@@ -11,7 +11,7 @@ use ad_tree::Ad;
 use ad_value::Memory;
 use claim_id::JobId;
 use queue_tx::{JobKind, Key, Queue};
-use schedd_table::{KeptClaim, engages};
+use schedd_table::{KeptClaim, LeftJobs, engages};
 use std::alloc::Global;
 use std::ops::Bound;
 
@@ -73,4 +73,13 @@ pub fn under_jobs(alloc: Global, queue: &Queue) -> Result<Vec<JobId>, Memory>
         last = Some(job);
     }
     Ok(jobs)
+}
+
+// The same jobs, as those that were left.
+#[tactic(auto, using(crate::proofs::Listing::under_in_order))]
+pub(crate) fn left_jobs(alloc: Global, queue: &Queue) -> Result<LeftJobs, Memory>
+    ensures { IfOk result (λ left. AreUnder queue.now None left) }
+{
+    let jobs = under_jobs(alloc, queue)?;
+    LeftJobs::of(alloc, &jobs)
 }

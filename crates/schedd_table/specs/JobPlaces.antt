@@ -1,5 +1,5 @@
 -- Where a job stands by the queue as logged, and what becomes of it when it is let go.
-use Rattle.std.specs.Prelude.{Bool, true, false, List, Option, Some, None, if◌then◌else◌}
+use Rattle.std.specs.Prelude.{Bool, true, false, not, List, filter, Option, Some, None, if◌then◌else◌}
 use Rattle.std.specs.List.{list_any}
 use Rattle.ad_tree.specs.Ad.{Attributes}
 use Rattle.claim_id.specs.declared.numbers.JobId.{JobId}
@@ -20,6 +20,10 @@ use Rattle.schedd_table.specs.declared.places.JobPlace.TheVariants.{Nowhere, Idl
 -- the job was left by an earlier boot of the pool
 abbrev pub is_left : JobId → List JobId → Bool
 is_left job left = list_any (λ other. same_job other job) left
+
+-- a job is no longer one that was left
+abbrev pub taken_off : JobId → List JobId → List JobId
+taken_off job left = filter (λ other. not (same_job other job)) left
 
 abbrev pub kind_place : Option JobKind → Bool → JobStatus → JobPlace
 kind_place None left st = Nowhere

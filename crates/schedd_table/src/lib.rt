@@ -5,6 +5,7 @@
 
 mod claims;
 mod ended;
+mod left;
 mod mail;
 mod orders;
 mod places;
@@ -13,6 +14,7 @@ mod tick;
 
 pub use claims::{KeptClaim, Stage, engages, place_of_claim, remove_claim, set_job, set_stage};
 pub use ended::ended_plan;
+pub use left::LeftJobs;
 pub use mail::{
     Fate, MailRow, denied_row, fate_of_gone, granted_row, matched_row, order_row, settle_claim,
 };

@@ -6,6 +6,7 @@ ghost use Rattle.queue_tx.specs.Queues.{ad_at};
 ghost use Rattle.queue_tx.specs.declared.key.Key.TheVariants.{Proc};
 ghost use Rattle.schedd_table.specs.JobPlaces.{is_left, job_place, place_in, kind_place, let_go, let_go_ad, is_idle, is_idle_at};
 
+use crate::left::LeftJobs;
 use ad_tree::Ad;
 use claim_id::JobId;
 use queue_tx::{JobKind, Key, Queue, kind_of};
@@ -31,15 +32,15 @@ pub fn ad_of(queue: &Queue, job: JobId) -> Option<&Ad>
     queue.get(&Key::Proc(job))
 }
 
-/// Whether a job was left by an earlier boot. Computes in O(jobs left), without memory.
-pub fn is_left(left: &[JobId], job: JobId) -> bool
+/// Whether a job was left by an earlier boot. Computes in O(log jobs left), without memory.
+pub fn is_left(left: &LeftJobs, job: JobId) -> bool
     ensures { result ≡ is_left job left.now }
 {
-    left.iter().any(|other| *other == job)
+    left.has(job)
 }
 
 /// Where a job of the queue stands. Computes as `Queue::get` and `is_left`.
-pub fn job_place(queue: &Queue, left: &[JobId], job: JobId) -> JobPlace
+pub fn job_place(queue: &Queue, left: &LeftJobs, job: JobId) -> JobPlace
     ensures { result ≡ job_place queue.now left.now job }
 {
     match ad_of(queue, job) {
