@@ -1,10 +1,12 @@
 -- Jobs that can be logged, one attribute at a time.
-use Rattle.std.proofs.Common.{◌≡◌, ℕ, zero, suc, ◌+◌, ◌≤◌, true, List, [], ◌∷◌, Option, Some, None, drop, length, slice_get, sym, subst, arith}
+use Rattle.std.proofs.Common.{◌≡◌, ℕ, zero, suc, ◌+◌, ◌≤◌, true, List, [], ◌∷◌, Some, drop, length, slice_get, subst, arith}
 use Rattle.std.specs.Prelude.{nat_le, IfSome}
 use Rattle.std.proofs.lemmas.Bool.{leb-true}
+use Rattle.std.proofs.lemmas.Option.{none-some, same_Some}
 use Rattle.std.proofs.lemmas.List.Sums.{count_by-le-length}
 use Rattle.ad_tree.specs.declared.ad.TheConstants.{MAX_ATTRIBUTES}
 use Rattle.ad_tree.specs.Ad.{AreDistinct, Attributes}
+use Rattle.ad_tree.specs.Tree.{Tree}
 use Rattle.claim_id.specs.declared.numbers.JobId.{JobId}
 use Rattle.loggable.specs.Loggable.{HasRoom}
 use Rattle.queue_tx.specs.declared.key.Key.TheVariants.{Proc}
@@ -28,3 +30,9 @@ printable_from (a ∷ ad) zero here rest = (here.0, here.1, rest)
 printable_from (a ∷ ad) (suc place) here rest =
     let next : suc place + 1 ≡ suc (place + 1) = omega arith in
     printable_from ad place here (subst (λ n. IsPrintableAd (drop n (a ∷ ad))) next rest)
+
+-- each attribute of an ad that can be printed can be
+pub printable_there : (ad : Attributes) (place : ℕ) (a : List ℕ × Tree) → IsPrintableAd ad → slice_get ad place ≡ Some a → IsPrintableAttribute a
+printable_there [] place a is at = absurd (none-some a at)
+printable_there (b ∷ ad) zero a is at = subst IsPrintableAttribute (same_Some b a at) (is.0, is.1)
+printable_there (b ∷ ad) (suc place) a is at = printable_there ad place a is.2 at

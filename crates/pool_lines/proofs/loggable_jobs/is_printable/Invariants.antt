@@ -4,4 +4,4 @@ use Rattle.queue_tx.specs.Printable.{IsPrintableAd}
 use Rattle.pool_lines.proofs.loggable_jobs.is_printable.Given as goal
 
 abbrev pub invariant-loop-place : goal.invariant-loop-place
-invariant-loop-place l = IsPrintableAd (drop l.place l.job) → IsPrintableAd l.job
+invariant-loop-place l = IsPrintableAd l.sample → IsPrintableAd (drop l.place l.job) → IsPrintableAd l.job
