@@ -1,9 +1,10 @@
 ghost use Rattle.std.specs.Prelude.{◌≡◌, ◌<◌};
-ghost use Rattle.negotiate.specs.Snapshots.{IsSnapshot};
+ghost use Rattle.pie_spin.specs.Snapshots.{IsSnapshot};
 
 use ad_eval::Steps;
 use ad_value::Memory;
-use negotiate::{Snapshot, cycle};
+use negotiate::cycle;
+use pie_spin::Snapshot;
 use pool_mail::MatchList;
 use std::alloc::Global;
 use std::marker::Brand;

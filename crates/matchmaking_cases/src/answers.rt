@@ -5,7 +5,7 @@ use crate::negotiating::answer_cycle;
 use crate::snapshots::{add_offer, add_request, add_submitter, empty_snapshot, open_snapshot};
 use cases::{Case, CaseError, read_cases};
 use collector::Collector;
-use negotiate::Snapshot;
+use pie_spin::Snapshot;
 use std::alloc::Global;
 use user_priority::Accountant;
 

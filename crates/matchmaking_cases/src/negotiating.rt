@@ -1,11 +1,12 @@
 ghost use Rattle.std.specs.Prelude.{◌≡◌, ◌<◌};
-ghost use Rattle.negotiate.specs.Snapshots.{IsSnapshot};
+ghost use Rattle.pie_spin.specs.Snapshots.{IsSnapshot};
 
 use crate::readers::bad_form;
 use ad_eval::Steps;
 use ad_value::Memory;
 use cases::{Case, CaseError};
-use negotiate::{Snapshot, cycle, plain_cycle};
+use negotiate::cycle;
+use pie_spin::{Snapshot, plain_cycle};
 use pool_mail::{Match, MatchList};
 use std::alloc::Global;
 use std::fmt::Write;

@@ -1,14 +1,8 @@
 pub mod Members
 pub mod Growing
-pub mod Turning
-pub mod Ending
+pub mod Settling
 pub mod Idle
 pub mod Sound
-pub mod Choices
-pub mod Spins
-pub mod Cycles
-pub mod Order
-pub mod Openings
 pub mod Snapshots
 pub mod KeptLists
 pub mod ListTables

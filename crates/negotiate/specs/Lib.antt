@@ -1,10 +1,3 @@
-pub mod Snapshots
-pub mod Offers
-pub mod Cycle
-pub mod Opening
-pub mod Keyed
-pub mod Plain
-pub mod Loops
 pub mod Laws
 pub mod Grouped
 pub mod Parties

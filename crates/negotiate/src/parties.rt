@@ -2,17 +2,16 @@
 
 ghost use Rattle.std.specs.Prelude.{◌≡◌, ◌==◌, ◌||◌, ℕ, ◌+◌, ◌*◌, ◌≤◌, ◌<◌, map, length, [], IfOk, OnOk};
 ghost use Rattle.std.specs.List.{All, sum_by};
-ghost use Rattle.negotiate.specs.Cycle as cycle;
-ghost use Rattle.negotiate.specs.Loops as loops;
+ghost use Rattle.pie_spin.specs.Cycle as cycle;
+ghost use Rattle.pie_spin.specs.Loops as loops;
 ghost use Rattle.negotiate.specs.Parties as those;
 
-use crate::bidding::{is_below_ceiling, under_ceiling};
-use crate::course::{Account, Made};
 use crate::grouping::{Clustered, Lists, grouped_turn};
-use crate::snapshot::Snapshot;
-use crate::spinning::{greater, share, unmatched, weight};
 use ad_eval::Steps;
 use ad_value::Memory;
+use pie_spin::{
+    Account, Made, Snapshot, greater, is_below_ceiling, share, under_ceiling, unmatched, weight,
+};
 use std::alloc::Global;
 use std::collections::VecDeque;
 use std::sync::ledger::Ledger;
@@ -27,7 +26,7 @@ pub struct Party<'a> {
     pub lists: Lists<'a>,
 }
 
-#[tactic(auto, unfolding(crate::specs::Cycle::takes_part, crate::specs::Cycle::has_left))]
+#[tactic(auto, unfolding(pie_spin::specs::Cycle::takes_part, pie_spin::specs::Cycle::has_left))]
 fn takes_part(party: &Party<'_>, made: &[Made]) -> bool
     ensures { result ≡ cycle.takes_part made.now (those.bidder_of party.now) }
 {
