@@ -1,11 +1,8 @@
 pub mod EachSlots
-pub mod Expressions
 pub mod Limits
-pub mod Machines
 pub mod OneOutcome
 pub mod Own
 pub mod Readings
 pub mod SlotLemmas
 pub mod Times
-pub mod UserLemmas
 pub mod Owners

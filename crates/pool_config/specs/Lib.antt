@@ -1,9 +1,5 @@
 pub mod Names
-pub mod Configuration
-pub mod Errors
-pub mod Users
-pub mod Settings
 pub mod Lines
 pub mod Laws
-pub mod SoFar
+pub mod LinesSoFar
 pub mod Slots

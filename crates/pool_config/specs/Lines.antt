@@ -1,5 +1,5 @@
 -- What the lines of a configuration say: `NAME = value`, with macros over the names set before.
-use Rattle.std.specs.Prelude.{◌≡◌, ◌≢◌, ℕ, ◌&&◌, not, Bool, true, false, List, [], ◌∷◌, ◌++◌, Some, None, is_some, Result, Ok, Err}
+use Rattle.std.specs.Prelude.{◌≡◌, ◌≢◌, ℕ, true, false, List, [], ◌∷◌, ◌++◌, Some, None, Result, Ok, Err}
 use Rattle.ad_value.specs.Names.{lowercase}
 use Rattle.line_text.specs.declared.error.MacroError.{MacroError}
 use Rattle.line_text.specs.declared.error.MacroError.TheVariants as macro
@@ -7,20 +7,17 @@ use Rattle.line_text.specs.declared.logical.Line.{Line}
 use Rattle.line_text.specs.Expansion.{IsExpansion, IsRefused}
 use Rattle.line_text.specs.Lines.{logical_lines}
 use Rattle.line_text.specs.Macros.{Macros, with_macro}
-use Rattle.pool_config.specs.declared.error.ConfigError.{ConfigError}
-use Rattle.pool_config.specs.declared.error.ConfigError.TheVariants as error
-use Rattle.pool_config.specs.Configuration.{Configuration, ConfiguredMachine, plain_configuration}
-use Rattle.pool_config.specs.Names.{Sets, name_sets, setting_in, is_of_machine}
-use Rattle.pool_config.specs.Settings.{SoFar, set_to, whole}
+use Rattle.pool_settings.specs.declared.error.ConfigError.{ConfigError}
+use Rattle.pool_settings.specs.declared.error.ConfigError.TheVariants as error
+use Rattle.pool_settings.specs.Configuration.{Configuration, ConfiguredMachine, plain_configuration}
+use Rattle.pool_settings.specs.Keys.{Sets}
+use Rattle.pool_config.specs.Names.{name_sets, setting_in}
+use Rattle.pool_settings.specs.Settings.{SoFar, is_homeless, set_to, whole}
 
 -- what the lines have set, and the names that they have set as macros
 pub record LinesSoFar : Type 0 where
   pub settings : SoFar
   pub table : Macros
-
--- it sets what a machine's slots have, and there is no machine yet
-abbrev pub is_homeless : Sets → SoFar → Bool
-is_homeless k s = is_of_machine k && not (is_some s.last)
 
 -- a name that is set is a macro too
 abbrev pub and_macro : List ℕ → List ℕ → Macros → Result SoFar ConfigError

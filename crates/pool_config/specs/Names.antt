@@ -1,6 +1,6 @@
 -- The names that a configuration sets.
 use Rattle.ad_value.specs.Bytes.{code}
-use Rattle.std.specs.Prelude.{ℕ, ◌==◌, ◌&&◌, ◌||◌, not, nat_eq, nat_lt, Bool, true, false, List, [], ◌∷◌, length, codes, find, Option, Some, None, option_map, if◌then◌else◌}
+use Rattle.std.specs.Prelude.{ℕ, ◌==◌, ◌&&◌, ◌||◌, not, nat_eq, nat_lt, Bool, List, [], ◌∷◌, length, codes, find, Option, Some, None, option_map, if◌then◌else◌}
 use Rattle.std.specs.List.{list_any, list_all, position_or_len, before_first, after_first}
 use Rattle.ad_value.specs.Names.{same_name}
 use Rattle.ad_names.specs.declared.job.TheConstants.{ARGS, ARGUMENTS, CLUSTER_ID, CMD, ERR, IN, IWD, JOB_LEASE_DURATION, JOB_PRIO, JOB_UNIVERSE, ON_EXIT_HOLD, ON_EXIT_REMOVE, OUT, OWNER, PERIODIC_HOLD, PERIODIC_RELEASE, PERIODIC_REMOVE, PROC_ID, Q_DATE, REQUEST_CPUS, REQUEST_DISK, REQUEST_MEMORY, USER_LOG}
@@ -10,14 +10,13 @@ use Rattle.ad_names.specs.Groups.{pool_names}
 use Rattle.ad_token.specs.Lexing.{is_blank}
 use Rattle.ad_token.specs.Names.{is_name, is_name_byte}
 use Rattle.ad_token.specs.Blanks.{trimmed_text}
-use Rattle.pool_config.specs.declared.key.Key.{Key}
-use Rattle.pool_config.specs.declared.key.Key.TheVariants as key
-use Rattle.pool_config.specs.declared.word.Interval.{Interval}
-use Rattle.pool_config.specs.declared.word.Interval.TheVariants as interval
-use Rattle.pool_config.specs.declared.word.PoolWord.{PoolWord}
-use Rattle.pool_config.specs.declared.word.PoolWord.TheVariants as pool
-use Rattle.pool_config.specs.declared.word.SlotWord.{SlotWord}
-use Rattle.pool_config.specs.declared.word.SlotWord.TheVariants as slot
+use Rattle.pool_settings.specs.declared.word.Interval.{Interval}
+use Rattle.pool_settings.specs.declared.word.Interval.TheVariants as interval
+use Rattle.pool_settings.specs.declared.word.PoolWord.{PoolWord}
+use Rattle.pool_settings.specs.declared.word.PoolWord.TheVariants as pool
+use Rattle.pool_settings.specs.declared.word.SlotWord.{SlotWord}
+use Rattle.pool_settings.specs.declared.word.SlotWord.TheVariants as slot
+use Rattle.pool_settings.specs.Keys.{Sets, of_pool, ceiling, prio_factor, of_slots, attribute}
 
 -- ---- words
 
@@ -33,12 +32,6 @@ interval_name interval.PeriodicExprInterval = codes "PERIODIC_EXPR_INTERVAL"
 interval_name interval.DecayTick = codes "DECAY_TICK"
 interval_name interval.MaxJobRetirementTime = codes "MAXJOBRETIREMENTTIME"
 interval_name interval.MachineMaxVacateTime = codes "MACHINEMAXVACATETIME"
-
--- how short a time may be
-abbrev pub least_seconds : Interval → ℕ
-least_seconds interval.MaxJobRetirementTime = 0
-least_seconds interval.MachineMaxVacateTime = 0
-least_seconds _ = 1
 
 abbrev pub intervals : List Interval
 intervals =
@@ -102,22 +95,6 @@ is_taken x =
 
 -- ---- what a name sets
 
-pub data Sets : Type 0 where
-  of_pool : PoolWord → Sets
-  -- how many slots a user may have, and the factor of a user's priority
-  ceiling : List ℕ → Sets
-  prio_factor : List ℕ → Sets
-  of_slots : SlotWord → Sets
-  attribute : List ℕ → Sets
-
--- what the program keeps of it
-abbrev pub sets_of : Key → Sets
-sets_of (key.Pool w) = of_pool w
-sets_of (key.Ceiling u) = ceiling u.now
-sets_of (key.PrioFactor u) = prio_factor u.now
-sets_of (key.Slots w) = of_slots w
-sets_of (key.Attribute x) = attribute x.now
-
 -- what stands before the first such byte, and what after it
 abbrev pub cut_at : ℕ → List ℕ → Option (List ℕ × List ℕ)
 cut_at mark bs =
@@ -161,12 +138,6 @@ sets_with name None = word_sets name
 
 abbrev pub name_sets : List ℕ → Option Sets
 name_sets name = sets_with name (cut_at (code ".") name)
-
--- it sets what a machine's slots have
-abbrev pub is_of_machine : Sets → Bool
-is_of_machine (of_slots w) = true
-is_of_machine (attribute x) = true
-is_of_machine _ = false
 
 -- ---- lines
 

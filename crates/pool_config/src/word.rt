@@ -2,48 +2,9 @@
 
 ghost use Rattle.std.specs.Prelude.{◌≡◌, find};
 ghost use Rattle.ad_value.specs.Names.{same_name};
-ghost use Rattle.pool_config.specs.Names.{interval_name, least_seconds, pool_word_name, slot_word_name, pool_words, slot_words};
+ghost use Rattle.pool_config.specs.Names.{interval_name, pool_word_name, slot_word_name, pool_words, slot_words};
 
-/// A time that a configuration sets, in seconds.
-#[derive(Clone, Copy, Debug, PartialEq, Eq)]
-pub(crate) enum Interval {
-    ClassadLifetime,
-    UpdateInterval,
-    NegotiatorInterval,
-    AliveInterval,
-    JobLease,
-    ClaimLease,
-    MatchTimeout,
-    PeriodicExprInterval,
-    DecayTick,
-    MaxJobRetirementTime,
-    MachineMaxVacateTime,
-}
-
-/// What a word sets of the pool.
-#[derive(Clone, Copy, Debug, PartialEq, Eq)]
-pub(crate) enum PoolWord {
-    Spool,
-    Owner,
-    Seconds(Interval),
-    PreemptionRequirements,
-    /// It begins a machine.
-    Machine,
-}
-
-/// What a word sets of a machine's slots.
-#[derive(Clone, Copy, Debug, PartialEq, Eq)]
-pub(crate) enum SlotWord {
-    /// How many there are.
-    Slots,
-    Cpus,
-    /// In MiB.
-    Memory,
-    /// In KiB.
-    Disk,
-    Start,
-    Rank,
-}
+use pool_settings::{Interval, PoolWord, SlotWord};
 
 // All of them.
 const POOL_WORDS: &[PoolWord] = &[
@@ -73,65 +34,49 @@ const SLOT_WORDS: &[SlotWord] = &[
     SlotWord::Rank,
 ];
 
-impl Interval {
-    // How it is written.
-    fn name(self) -> &'static str
-        ensures { result.now ≡ interval_name self }
-    {
-        match self {
-            Interval::ClassadLifetime => "CLASSAD_LIFETIME",
-            Interval::UpdateInterval => "UPDATE_INTERVAL",
-            Interval::NegotiatorInterval => "NEGOTIATOR_INTERVAL",
-            Interval::AliveInterval => "ALIVE_INTERVAL",
-            Interval::JobLease => "JOB_LEASE",
-            Interval::ClaimLease => "CLAIM_LEASE",
-            Interval::MatchTimeout => "MATCH_TIMEOUT",
-            Interval::PeriodicExprInterval => "PERIODIC_EXPR_INTERVAL",
-            Interval::DecayTick => "DECAY_TICK",
-            Interval::MaxJobRetirementTime => "MAXJOBRETIREMENTTIME",
-            Interval::MachineMaxVacateTime => "MACHINEMAXVACATETIME",
-        }
-    }
-
-    /// How short it may be, in seconds. Computes in O(1).
-    pub(crate) fn least_seconds(self) -> u64
-        ensures { result ≡ least_seconds self }
-    {
-        match self {
-            Interval::MaxJobRetirementTime | Interval::MachineMaxVacateTime => 0,
-            _ => 1,
-        }
+// How a time is written.
+fn interval_name(interval: Interval) -> &'static str
+    ensures { result.now ≡ interval_name interval }
+{
+    match interval {
+        Interval::ClassadLifetime => "CLASSAD_LIFETIME",
+        Interval::UpdateInterval => "UPDATE_INTERVAL",
+        Interval::NegotiatorInterval => "NEGOTIATOR_INTERVAL",
+        Interval::AliveInterval => "ALIVE_INTERVAL",
+        Interval::JobLease => "JOB_LEASE",
+        Interval::ClaimLease => "CLAIM_LEASE",
+        Interval::MatchTimeout => "MATCH_TIMEOUT",
+        Interval::PeriodicExprInterval => "PERIODIC_EXPR_INTERVAL",
+        Interval::DecayTick => "DECAY_TICK",
+        Interval::MaxJobRetirementTime => "MAXJOBRETIREMENTTIME",
+        Interval::MachineMaxVacateTime => "MACHINEMAXVACATETIME",
     }
 }
 
-impl PoolWord {
-    // How it is written.
-    fn name(self) -> &'static str
-        ensures { result.now ≡ pool_word_name self }
-    {
-        match self {
-            PoolWord::Spool => "SPOOL",
-            PoolWord::Owner => "OWNER",
-            PoolWord::Seconds(interval) => interval.name(),
-            PoolWord::PreemptionRequirements => "PREEMPTION_REQUIREMENTS",
-            PoolWord::Machine => "MACHINE",
-        }
+// How a word of the pool is written.
+fn pool_word_name(word: PoolWord) -> &'static str
+    ensures { result.now ≡ pool_word_name word }
+{
+    match word {
+        PoolWord::Spool => "SPOOL",
+        PoolWord::Owner => "OWNER",
+        PoolWord::Seconds(interval) => interval_name(interval),
+        PoolWord::PreemptionRequirements => "PREEMPTION_REQUIREMENTS",
+        PoolWord::Machine => "MACHINE",
     }
 }
 
-impl SlotWord {
-    // How it is written.
-    fn name(self) -> &'static str
-        ensures { result.now ≡ slot_word_name self }
-    {
-        match self {
-            SlotWord::Slots => "SLOTS",
-            SlotWord::Cpus => "CPUS",
-            SlotWord::Memory => "MEMORY",
-            SlotWord::Disk => "DISK",
-            SlotWord::Start => "START",
-            SlotWord::Rank => "RANK",
-        }
+// How a word of a machine's slots is written.
+fn slot_word_name(word: SlotWord) -> &'static str
+    ensures { result.now ≡ slot_word_name word }
+{
+    match word {
+        SlotWord::Slots => "SLOTS",
+        SlotWord::Cpus => "CPUS",
+        SlotWord::Memory => "MEMORY",
+        SlotWord::Disk => "DISK",
+        SlotWord::Start => "START",
+        SlotWord::Rank => "RANK",
     }
 }
 
@@ -142,7 +87,7 @@ pub(crate) fn pool_word(name: &str) -> Option<PoolWord>
     POOL_WORDS
         .iter()
         .copied()
-        .find(|word| name.eq_ignore_ascii_case(word.name()))
+        .find(|word| name.eq_ignore_ascii_case(pool_word_name(*word)))
 }
 
 /// What a word, without case, sets of a machine's slots. Computes in O(bytes).
@@ -152,5 +97,5 @@ pub(crate) fn slot_word(name: &str) -> Option<SlotWord>
     SLOT_WORDS
         .iter()
         .copied()
-        .find(|word| name.eq_ignore_ascii_case(word.name()))
+        .find(|word| name.eq_ignore_ascii_case(slot_word_name(*word)))
 }

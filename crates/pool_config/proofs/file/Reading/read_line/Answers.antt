@@ -1,4 +1,4 @@
-use Rattle.pool_config.specs.SoFar.{lines_so_far}
+use Rattle.pool_config.specs.LinesSoFar.{lines_so_far}
 use Rattle.pool_config.proofs.Readings.{line_set, line_bad}
 use Rattle.pool_config.proofs.file.Reading.read_line.Goals as goal
 

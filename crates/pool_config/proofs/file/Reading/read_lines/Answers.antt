@@ -1,5 +1,5 @@
 use Rattle.std.proofs.Common.{rules}
-use Rattle.pool_config.specs.SoFar.{lines_so_far}
+use Rattle.pool_config.specs.LinesSoFar.{lines_so_far}
 use Rattle.pool_config.proofs.Readings.{next_line, lines_err}
 use Rattle.pool_config.proofs.file.Reading.read_lines.Goals as goal
 

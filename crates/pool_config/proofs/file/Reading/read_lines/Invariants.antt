@@ -2,7 +2,7 @@
 use Rattle.std.proofs.Common.{List, ◌++◌, drop}
 use Rattle.line_text.specs.declared.logical.Line.{Line}
 use Rattle.pool_config.specs.Lines.{ReadResult, Reads}
-use Rattle.pool_config.specs.SoFar.{lines_so_far}
+use Rattle.pool_config.specs.LinesSoFar.{lines_so_far}
 use Rattle.pool_config.proofs.file.Reading.read_lines.Given as goal
 
 abbrev pub invariant-loop-line : goal.invariant-loop-line

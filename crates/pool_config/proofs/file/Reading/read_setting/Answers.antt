@@ -1,4 +1,4 @@
-use Rattle.pool_config.specs.SoFar.{lines_so_far}
+use Rattle.pool_config.specs.LinesSoFar.{lines_so_far}
 use Rattle.pool_config.proofs.Readings.{setting_known, setting_unknown}
 use Rattle.pool_config.proofs.file.Reading.read_setting.Goals as goal
 

@@ -1,4 +1,0 @@
-use Rattle.pool_config.proofs.key.is_slot_attribute.Goals as goal
-
-pub returns : goal.returns
-returns c = c.is_among.ensures
