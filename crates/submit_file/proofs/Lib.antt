@@ -4,9 +4,5 @@ pub mod Kept
 pub mod Names
 pub mod OneResult
 pub mod OtherReadings
-pub mod Places
-pub mod Puts
 pub mod Readings
-pub mod Spared
 pub mod Submitted
-pub mod Takings

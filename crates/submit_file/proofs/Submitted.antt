@@ -27,15 +27,16 @@ use Rattle.submit_values.specs.declared.error.ValueError.TheVariants as fault
 use Rattle.submit_values.specs.JobAds.{added}
 use Rattle.submit_values.specs.Commands.{attribute_name}
 use Rattle.submit_values.specs.Values.{value_at, preset_at, some_of, tree_of_text, string_at}
-use Rattle.submit_file.specs.declared.draft.Place.{Place}
-use Rattle.submit_file.specs.declared.error.SubmitError.{SubmitError}
-use Rattle.submit_file.specs.declared.error.SubmitError.TheVariants as error
+use Rattle.submit_job.specs.declared.error.SubmitError.{SubmitError}
+use Rattle.submit_job.specs.declared.error.SubmitError.TheVariants as error
 use Rattle.submit_file.specs.declared.file.FileSoFar.{FileSoFar}
-use Rattle.submit_file.specs.declared.file.LinesSoFar.{LinesSoFar}
-use Rattle.submit_file.specs.declared.setting.Setting.{Setting}
-use Rattle.submit_file.specs.Drafts.{JobDraft, Effect, named_value, macro_refusal, with_effect, ad_or, with_room}
-use Rattle.submit_file.specs.Origins.{Origin, owner_command, other_command, own_line, name_for, preset_for}
-use Rattle.submit_file.specs.SubmittedJobs.{Common, whole, place_of, effect_at, Gives, nothing_set, is_set, Takes, takes, TakesAll, all_taken, and_takes, commands, origins, numbered, queued, Fills, fills, nothing, IsJob, is_job, AdsResult, MakesJobs, jobs_end, stops, and_job, job_macros, over_items, items_of, jobs_in, Asks, too_many, no_program, no_jobs, jobs, Queues, unreadable, no_form, asks, Reads, ended, no_queue, refuses, sets, sets_attribute, refuses_queue, queues, name_set, with_name, with_attribute_line, with_ads, begun, SubmittedJobs}
+use Rattle.submit_job.specs.declared.setting.LinesSoFar.{LinesSoFar}
+use Rattle.submit_job.specs.declared.setting.Setting.{Setting}
+use Rattle.submit_job.specs.Drafts.{JobDraft, Effect, named_value, macro_refusal, with_effect, ad_or, with_room}
+use Rattle.submit_job.specs.Origins.{Origin, owner_command, other_command, own_line, name_for, preset_for}
+use Rattle.submit_job.specs.OneJob.{Common, whole, place_of, effect_at, Gives, nothing_set, is_set, Takes, takes, TakesAll, all_taken, and_takes, commands, origins, numbered, queued, Fills, fills, nothing, IsJob, is_job}
+use Rattle.submit_file.specs.SubmittedJobs.{AdsResult, MakesJobs, jobs_end, stops, and_job, over_items, items_of, jobs_in, Asks, too_many, no_program, no_jobs, jobs, Queues, unreadable, no_form, asks, Reads, ended, no_queue, refuses, sets, sets_attribute, refuses_queue, queues, name_set, with_name, with_attribute_line, with_ads, begun, SubmittedJobs}
+use Rattle.submit_file.specs.JobMacros.{job_macros}
 use Rattle.submit_lines.specs.Names.{is_built_in}
 use Rattle.submit_file.proofs.Names.{IsFree, free_owner, free_date, free_universe, cluster_is_name, proc_is_name, status_is_name, free_command, frees_line, AllFree, all_free_with}
 use Rattle.submit_file.proofs.Kept.{KeepsSome, some_keeps, text_keeps, string_keeps, value_keeps, preset_keeps}
@@ -128,16 +129,16 @@ IsGood (named_value x p (Ok None)) = Unit {0}
 IsGood (named_value x p (Err f)) = Unit {0}
 IsGood (macro_refusal f) = Unit {0}
 
-good_value : (x : List ℕ) (p : Place) (v : Result (Option Tree) ValueError) → IsFree x → KeepsSome v → IsGood (named_value x p v)
+good_value : (x : List ℕ) (p : _) (v : Result (Option Tree) ValueError) → IsFree x → KeepsSome v → IsGood (named_value x p v)
 good_value x p (Ok (Some e)) free kept = (free, kept)
 good_value x p (Ok None) free kept = tt
 good_value x p (Err f) free kept = tt
 
-good_either : (x : List ℕ) (p : Place) (f : ValueError) (b : Bool) → IsGood (named_value x p (cond b (Ok None) (Err f)))
+good_either : (x : List ℕ) (p : _) (f : ValueError) (b : Bool) → IsGood (named_value x p (cond b (Ok None) (Err f)))
 good_either x p f true = tt
 good_either x p f false = tt
 
-good_command : (c : Command) (x : List ℕ) (p : Place) → IsGood (named_value (attribute_name c x) p (value_at c x))
+good_command : (c : Command) (x : List ℕ) (p : _) → IsGood (named_value (attribute_name c x) p (value_at c x))
 good_command command.Executable x p = good_value (attribute_name command.Executable x) p (value_at command.Executable x) (free_command command.Executable x tt) (value_keeps command.Executable x)
 good_command command.Arguments x p = good_value (attribute_name command.Arguments x) p (value_at command.Arguments x) (free_command command.Arguments x tt) (value_keeps command.Arguments x)
 good_command command.Universe x p = good_either [] p fault.Universe (same_name x (codes "vanilla") || bytes_eq x (codes "5"))
@@ -159,7 +160,7 @@ good_command command.PeriodicHold x p = good_value (attribute_name command.Perio
 good_command command.PeriodicRemove x p = good_value (attribute_name command.PeriodicRemove x) p (value_at command.PeriodicRemove x) (free_command command.PeriodicRemove x tt) (value_keeps command.PeriodicRemove x)
 good_command command.PeriodicRelease x p = good_value (attribute_name command.PeriodicRelease x) p (value_at command.PeriodicRelease x) (free_command command.PeriodicRelease x tt) (value_keeps command.PeriodicRelease x)
 
-good_preset : (c : Command) (p : Place) → IsGood (named_value (attribute_name c []) p (preset_at c))
+good_preset : (c : Command) (p : _) → IsGood (named_value (attribute_name c []) p (preset_at c))
 good_preset command.Executable p = tt
 good_preset command.Arguments p = good_value (attribute_name command.Arguments []) p (preset_at command.Arguments) (free_command command.Arguments [] tt) (preset_keeps command.Arguments)
 good_preset command.Universe p = tt
@@ -228,12 +229,12 @@ length-items_of n None = length-replicate n None
 length-items_of n (Some o) = length-over_items n o.variable o.items
 
 module _ (h : Common) (owner : HasReadableLiteral (text h.owner)) where
-  good_unset : (o : Origin) (p : Place) → IsGood (named_value (name_for o []) p (preset_for h.owner o))
+  good_unset : (o : Origin) (p : _) → IsGood (named_value (name_for o []) p (preset_for h.owner o))
   good_unset owner_command p = (free_owner, readable_value (text h.owner) owner)
   good_unset (other_command c) p = good_preset c p
   good_unset (own_line s) p = tt
 
-  good_set : (o : Origin) (p : Place) (r : Result (List ℕ) SubmitError) → IsGoodOrigin o → IsGood (effect_at o p r)
+  good_set : (o : Origin) (p : _) (r : Result (List ℕ) SubmitError) → IsGoodOrigin o → IsGood (effect_at o p r)
   good_set o p (Err f) good = tt
   good_set owner_command p (Ok x) good = good_value OWNER.now p (some_of (string_at x)) free_owner (some_keeps (string_at x) (string_keeps x))
   good_set (other_command c) p (Ok x) good = good_command c x p

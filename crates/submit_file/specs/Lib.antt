@@ -1,7 +1,3 @@
-pub mod Settings
-pub mod Errors
-pub mod Drafts
-pub mod Origins
+pub mod JobMacros
 pub mod SubmittedJobs
-pub mod Plans
 pub mod OtherReadings

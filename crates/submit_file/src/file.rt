@@ -1,29 +1,17 @@
 ghost use Rattle.std.specs.Prelude.{◌≡◌, ◌≤◌, ◌<◌, ◌^◌, ◌+◌, [], ◌∷◌, ◌-◌, min, length, IfOk, OnOk, IsTrue, IsFalse, ◌↔◌};
-ghost use Rattle.submit_file.specs.Errors.{UnlessMemory, line_error};
-ghost use Rattle.submit_file.specs.SubmittedJobs.{SubmittedJobs, Common, Asks, Queues, Reads, HasProgram, TakesLines, TakesQueue, with_name, begun, common, AddsJobs, FitsIn, jobs_in, items_of};
-ghost use Rattle.submit_file.specs.Plans.{variable_in, blocked};
+ghost use Rattle.submit_job.specs.declared.error.TheConstants.{MAX_JOBS};
+ghost use Rattle.submit_job.specs.Errors.{UnlessMemory};
+ghost use Rattle.submit_job.specs.OneJob.{Common, common};
+ghost use Rattle.submit_file.specs.SubmittedJobs.{SubmittedJobs, Asks, Queues, Reads, HasProgram, TakesLines, TakesQueue, with_name, begun, AddsJobs, FitsIn, jobs_in, items_of, line_error};
 
-use crate::error::SubmitError;
-use crate::macros::{NO_REFERENCE, expand_at, set_job_macros};
-use crate::setting::Settings;
-use crate::statement::{Heading, Statement};
+use crate::copies::add_jobs;
+use crate::macros::blocked_table;
 use ad_tree::AdList;
-use ad_value::{Copied, Memory, Seq};
+use ad_value::{Memory, Seq};
 use line_text::{Line, MacroTable, lines};
 use std::alloc::Global;
+use submit_job::{Heading, LinesSoFar, MAX_JOBS, Settings, Statement, SubmitError, expand_at};
 use submit_lines::{LineFault, Queue, SubmitLine, is_built_in, read_line, read_queue};
-
-/// How many jobs one file may ask for.
-pub const MAX_JOBS: usize = 10_000;
-
-/// What the lines of a file have set.
-#[derive(Drop)]
-pub(crate) struct LinesSoFar {
-    /// The macros, without the names that each job has for itself.
-    pub(crate) table: MacroTable,
-    pub(crate) commands: Settings,
-    pub(crate) attributes: Settings,
-}
 
 /// What was read of a file.
 #[derive(Drop)]
@@ -225,28 +213,13 @@ impl FileSoFar {
         ensures lines { self.new.lines ≡ self.old.lines }
         ensures queue { self.new.has_queue ≡ self.old.has_queue }
     {
-        let mut table = self.lines.blocked_table(alloc, queue)?;
+        let mut table = blocked_table(&self.lines, alloc, queue)?;
         let statement = Statement {
             heading,
             file: &self.lines,
             line,
         };
-        statement.add_jobs(alloc, queue, &mut table, &mut self.ads)
-    }
-}
-
-impl LinesSoFar {
-    // The macros, and those of a job, each of which has no expansion.
-    fn blocked_table(&self, alloc: Global, queue: &Queue) -> Result<MacroTable, Memory>
-        ensures { IfOk result (λ t. t ≡ blocked (variable_in queue.now.over) self.now.table) }
-    {
-        let mut table = self.table.copy(alloc)?;
-        let item = match &queue.over {
-            Some(over) => Some((over.variable.as_str(), NO_REFERENCE)),
-            None => None,
-        };
-        set_job_macros(alloc, &mut table, NO_REFERENCE, item)?;
-        Ok(table)
+        add_jobs(statement, alloc, queue, &mut table, &mut self.ads)
     }
 }
 

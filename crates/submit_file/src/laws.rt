@@ -6,8 +6,9 @@ ghost use Rattle.ad_tree.specs.Ad.{Attributes};
 ghost use Rattle.ad_token.specs.Names.{is_name};
 ghost use Rattle.ad_parse.specs.ValueText.{HasReadableLiteral};
 ghost use Rattle.job_ads.specs.Submitted.{AreSubmitted};
+ghost use Rattle.submit_job.specs.OneJob.{Common};
 ghost use Rattle.submit_file.specs.OtherReadings.{at_reading, HaveOneResult};
-ghost use Rattle.submit_file.specs.SubmittedJobs.{Common, AdsResult, SubmittedJobs};
+ghost use Rattle.submit_file.specs.SubmittedJobs.{AdsResult, SubmittedJobs};
 
 /// A file has one result, for a cluster, an owner and a reading.
 pub fn submitted_jobs_are_one()

@@ -1,46 +1,51 @@
-ghost use Rattle.std.specs.Prelude.{◌≡◌, OnOk};
-ghost use Rattle.submit_file.specs.Errors.{UnlessMemory, Replaced};
-ghost use Rattle.submit_file.specs.SubmittedJobs.{item_of, job_macros};
+ghost use Rattle.std.specs.Prelude.{◌≡◌, decimal, IfOk, OnOk};
+ghost use Rattle.submit_file.specs.JobMacros.{item_of, job_macros, variable_in, blocked};
 
-use crate::error::SubmitError;
-use ad_value::{Memory, Text};
-use line_text::{MacroError, MacroTable, expand};
+use ad_value::{Copied, Memory};
+use line_text::MacroTable;
 use std::alloc::Global;
+use submit_job::LinesSoFar;
+use submit_lines::Queue;
 
-/// A text of a line with its macros replaced. Computes in O(bytes of the text, of the table and of
-/// what is written) where names do not collide.
-pub(crate) fn expand_at(
+// A value that has no expansion.
+const NO_REFERENCE: &str = "$(";
+
+/// The macros that lines have set, and those of a job, each of which has no expansion. Computes in
+/// O(bytes of the macros).
+pub(crate) fn blocked_table(
+    lines: &LinesSoFar,
     alloc: Global,
-    text: &str,
-    table: &MacroTable,
-    line: u32,
-) -> Result<Text, SubmitError>
-    ensures { UnlessMemory (Replaced table.now text.now line) result }
+    queue: &Queue,
+) -> Result<MacroTable, Memory>
+    ensures { IfOk result (λ t. t ≡ blocked (variable_in queue.now.over) lines.now.table) }
 {
-    match expand(alloc, text, table) {
-        Ok(text) => Ok(text),
-        Err(MacroError::Memory) => Err(SubmitError::Memory),
-        Err(MacroError::Bad { at }) => Err(SubmitError::Macro {
-            line,
-            error: MacroError::Bad { at },
-        }),
-        Err(MacroError::Circular { name }) => Err(SubmitError::Macro {
-            line,
-            error: MacroError::Circular { name },
-        }),
-        Err(MacroError::TooLong { length }) => Err(SubmitError::Macro {
-            line,
-            error: MacroError::TooLong { length },
-        }),
-    }
+    let mut table = lines.table.copy(alloc)?;
+    let item = match &queue.over {
+        Some(over) => Some((over.variable.as_str(), NO_REFERENCE)),
+        None => None,
+    };
+    set_job_macros(alloc, &mut table, NO_REFERENCE, item)?;
+    Ok(table)
 }
 
-/// A value that has no expansion.
-pub(crate) const NO_REFERENCE: &str = "$(";
+/// Sets the macros of the job of this number. Computes in O(bytes of the item) where names do not
+/// collide.
+pub(crate) fn set_job(
+    alloc: Global,
+    table: &mut MacroTable,
+    proc: u32,
+    item: Option<(&str, &str)>,
+) -> Result<(), Memory>
+    ensures { OnOk result (
+        table.new ≡ job_macros (decimal proc) (item_of item.entry) table.old) }
+{
+    let number = format!(in alloc; "{proc}")?;
+    set_job_macros(alloc, table, number.as_str(), item)
+}
 
-/// Sets the macros of a job: its number, and the variable of its queue statement, where that has
-/// items. Computes in O(bytes of the item) on average, where names do not collide.
-pub(crate) fn set_job_macros(
+// Sets the macros of a job: its number, and the variable of its queue statement, where that has
+// items.
+fn set_job_macros(
     alloc: Global,
     table: &mut MacroTable,
     number: &str,

@@ -1,7 +1,8 @@
 use Rattle.std.proofs.Common.{ap, sym, ◌∙◌}
 use Rattle.submit_lines.specs.Queue.{queue_of}
-use Rattle.submit_file.specs.Errors.{Replaced}
-use Rattle.submit_file.specs.SubmittedJobs.{common, Queues, TakesQueue, unreadable, no_form}
+use Rattle.submit_job.specs.Errors.{Replaced}
+use Rattle.submit_job.specs.OneJob.{common}
+use Rattle.submit_file.specs.SubmittedJobs.{Queues, TakesQueue, unreadable, no_form}
 use Rattle.submit_file.proofs.Copies.{unless_map}
 use Rattle.submit_file.proofs.Readings.{statement_taken}
 use Rattle.submit_file.proofs.file.FileSoFar.queue.Goals as goal

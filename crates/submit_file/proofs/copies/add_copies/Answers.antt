@@ -1,0 +1,8 @@
+use Rattle.std.proofs.Common.{rules}
+use Rattle.submit_job.specs.OneJob.{common}
+use Rattle.submit_file.specs.JobMacros.{item_of}
+use Rattle.submit_file.proofs.Copies.{copies_err}
+use Rattle.submit_file.proofs.copies.add_copies.Goals as goal
+
+pub returns-in-Err-clause-made : goal.returns-in-Err-clause-made
+returns-in-Err-clause-made c = copies_err (common c.args.plan.now.statement.heading) c.args.plan.now.statement.file.now c.args.plan.now.statement.line (item_of c.args.item) c.args.copies c.loop.counter c.args.ads.now c.loop.ads c.add_job.new.ads c.in-Err.error (search rules) c.loop.invariant.made (search rules)
