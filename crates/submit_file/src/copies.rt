@@ -1,8 +1,8 @@
-ghost use Rattle.std.specs.Prelude.{◌≡◌, ◌≤◌, ◌<◌, ◌^◌, ◌+◌, ◌*◌, [], ◌∷◌, length, decimal, replicate, Some, OnOk};
+ghost use Rattle.std.specs.Prelude.{◌≡◌, ◌≤◌, ◌<◌, ◌^◌, ◌+◌, ◌*◌, [], ◌∷◌, length, replicate, Some, OnOk};
 ghost use Rattle.submit_job.specs.declared.error.TheConstants.{MAX_JOBS};
 ghost use Rattle.submit_job.specs.Errors.{UnlessMemory};
 ghost use Rattle.submit_job.specs.OneJob.{common};
-ghost use Rattle.submit_file.specs.JobMacros.{item_of, job_macros, variable_in, variable_of, AreJobMacros, blocked, IsPlan};
+ghost use Rattle.submit_file.specs.JobMacros.{item_of, variable_in, variable_of, AreJobMacros, blocked, IsPlan};
 ghost use Rattle.submit_file.specs.SubmittedJobs.{AddsJobs, jobs_in, items_of, over_items};
 
 use crate::macros::set_job;

@@ -147,10 +147,10 @@ last_part h f t n ps i d l = subst (λ l. TakesAll h f t n (origins_of l) d d) (
 
 -- ---- a job
 
-pub fill_made : (h : Common) (f : LinesSoFar) (t : Macros) (proc n : ℕ) (d0 d1 d2 e q1 q2 q3 g : JobDraft) (tc tp tq t5 t1 : Tree) (o : Origin) (os : List Origin) → o ≡ owner_command → os ≡ origins f → tc ≡ whole h.cluster → tp ≡ whole proc → tq ≡ whole h.now → t5 ≡ whole 5 → t1 ≡ whole 1 → d1 ≡ with_given CLUSTER_ID.now tc d0 → d2 ≡ with_given PROC_ID.now tp d1 → Takes h f t n o d2 e → q1 ≡ with_given Q_DATE.now tq e → q2 ≡ with_given JOB_UNIVERSE.now t5 q1 → q3 ≡ with_given JOB_STATUS.now t1 q2 → TakesAll h f t n os q3 g → Fills h f t proc n d0 g
-fill_made h f t proc n d0 d1 d2 e q1 q2 q3 g tc tp tq t5 t1 o os own all ec ep eq e5 e1 a1 a2 owned b1 b2 b3 rest =
-    let two : d2 ≡ numbered h proc d0 = a2 ∙ (λ k. with_given PROC_ID.now (ep k) ((a1 ∙ ap (λ t. with_given CLUSTER_ID.now t d0) ec) k)) in
-    let three : q3 ≡ queued h e = b3 ∙ (λ k. with_given JOB_STATUS.now (e1 k) ((b2 ∙ (λ k. with_given JOB_UNIVERSE.now (e5 k) ((b1 ∙ ap (λ t. with_given Q_DATE.now t e) eq) k))) k)) in
+pub fill_made : (h : Common) (f : LinesSoFar) (t : Macros) (proc n : ℕ) (d0 d1 d2 e q1 q2 q3 g : JobDraft) (o : Origin) (os : List Origin) → o ≡ owner_command → os ≡ origins f → d1 ≡ with_given CLUSTER_ID.now (whole h.cluster) d0 → d2 ≡ with_given PROC_ID.now (whole proc) d1 → Takes h f t n o d2 e → q1 ≡ with_given Q_DATE.now (whole h.now) e → q2 ≡ with_given JOB_UNIVERSE.now (whole 5) q1 → q3 ≡ with_given JOB_STATUS.now (whole 1) q2 → TakesAll h f t n os q3 g → Fills h f t proc n d0 g
+fill_made h f t proc n d0 d1 d2 e q1 q2 q3 g o os own all a1 a2 owned b1 b2 b3 rest =
+    let two : d2 ≡ numbered h proc d0 = a2 ∙ ap (with_given PROC_ID.now (whole proc)) a1 in
+    let three : q3 ≡ queued h e = b3 ∙ ap (with_given JOB_STATUS.now (whole 1)) (b2 ∙ ap (with_given JOB_UNIVERSE.now (whole 5)) b1) in
     fills (subst (λ d. Takes h f t n owner_command d e) two (subst (λ o. Takes h f t n o d2 e) own owned)) (subst (λ d. TakesAll h f t n (origins f) d g) three (subst (λ os. TakesAll h f t n os q3 g) all rest))
 
 pub unless : {X : Type 0} (P : Result X SubmitError → Type 0) (r : Result X SubmitError) → P r → UnlessMemory P r

@@ -1,5 +1,5 @@
 -- The ad of a job that a submit file asks for (HTCondor manual, "Submitting a job").
-use Rattle.std.specs.Prelude.{◌≡◌, ℕ, pos, List, [], ◌∷◌, ◌++◌, map, Option, Some, None, Result, Ok, Err}
+use Rattle.std.specs.Prelude.{◌≡◌, ℕ, pos, List, [], ◌∷◌, ◌++◌, map, Some, None, Result, Ok, Err}
 use Rattle.ad_value.specs.Content.{integer}
 use Rattle.ad_names.specs.declared.job.TheConstants.{CLUSTER_ID, PROC_ID, Q_DATE, JOB_UNIVERSE, JOB_STATUS}
 use Rattle.ad_tree.specs.Tree.{Tree, literal}

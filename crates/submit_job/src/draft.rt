@@ -18,7 +18,7 @@ pub(crate) struct Draft {
 }
 
 /// Where a value stands: the line of its command, and that of the queue statement.
-#[derive(Clone, Copy, Debug)]
+#[derive(Clone, Copy)]
 pub(crate) struct Place {
     pub(crate) line: u32,
     pub(crate) statement: u32,

@@ -1,11 +1,10 @@
-ghost use Rattle.std.specs.Prelude.{◌≡◌, ◌<◌, ◌^◌, ◌++◌, pos, map, IfOk, OnOk};
-ghost use Rattle.ad_value.specs.Content.{integer};
-ghost use Rattle.ad_tree.specs.Tree.{tree, literal};
+ghost use Rattle.std.specs.Prelude.{◌≡◌, ◌<◌, ◌^◌, ◌++◌, map, IfOk, OnOk};
+ghost use Rattle.ad_tree.specs.Tree.{tree};
 ghost use Rattle.line_text.specs.Macros.{Macros};
 ghost use Rattle.submit_job.specs.Errors.{UnlessMemory};
-ghost use Rattle.submit_job.specs.Drafts.{draft_of};
+ghost use Rattle.submit_job.specs.Drafts.{draft_of, with_given};
 ghost use Rattle.submit_job.specs.Origins.{origin_of, other_command, own_line};
-ghost use Rattle.submit_job.specs.OneJob.{common, Takes, TakesAll, Fills, IsJob};
+ghost use Rattle.submit_job.specs.OneJob.{common, whole, Takes, TakesAll, Fills, IsJob};
 ghost use Rattle.submit_job.specs.Plans.{origins_of, Spares, IsPartFor, ArePartsFor, IsPlanFor};
 
 use crate::draft::Draft;
@@ -21,7 +20,7 @@ use std::alloc::Global;
 use submit_values::Command;
 
 /// An attribute of the jobs of a queue statement.
-#[derive(Debug, Drop)]
+#[derive(Drop)]
 pub(crate) struct Part<'a> {
     pub(crate) source: Source<'a>,
     /// What it is for each of the jobs, where that is known before there is a job.
@@ -156,12 +155,12 @@ impl Plan<'_> {
             (common self.now.statement.heading) self.now.statement.file.now table.now
             proc self.now.statement.line (draft_of draft.old) (draft_of draft.new)) }
     {
-        draft.add(alloc, CLUSTER_ID, small(self.statement.heading.cluster))?;
-        draft.add(alloc, PROC_ID, small(proc))?;
+        add_small(alloc, draft, CLUSTER_ID, self.statement.heading.cluster)?;
+        add_small(alloc, draft, PROC_ID, proc)?;
         self.take(alloc, table, &self.owner, draft)?;
-        draft.add(alloc, Q_DATE, whole(self.statement.heading.now))?;
-        draft.add(alloc, JOB_UNIVERSE, whole(5))?;
-        draft.add(alloc, JOB_STATUS, whole(1))?;
+        add_whole(alloc, draft, Q_DATE, self.statement.heading.now)?;
+        add_whole(alloc, draft, JOB_UNIVERSE, 5)?;
+        add_whole(alloc, draft, JOB_STATUS, 1)?;
         self.take_parts(alloc, table, draft)
     }
 
@@ -201,15 +200,31 @@ impl Plan<'_> {
     }
 }
 
+// No expression is held where others follow: each way out would prove its drop.
+fn add_small(alloc: Global, draft: &mut Draft, name: &str, n: u32) -> Result<(), Memory>
+    ensures { OnOk result (
+        draft_of draft.new ≡ with_given name.now (whole n) (draft_of draft.old)) }
+{
+    draft.add(alloc, name, small(n))
+}
+
+fn add_whole(alloc: Global, draft: &mut Draft, name: &str, n: u64) -> Result<(), Memory>
+    requires { n < 2 ^ 63 }
+    ensures { OnOk result (
+        draft_of draft.new ≡ with_given name.now (whole n) (draft_of draft.old)) }
+{
+    draft.add(alloc, name, whole(n))
+}
+
 fn small(n: u32) -> Expr
-    ensures { tree result ≡ literal (integer (pos n)) }
+    ensures { tree result ≡ whole n }
 {
     Expr::Lit(Value::Int(i64::from(n)))
 }
 
 fn whole(n: u64) -> Expr
     requires { n < 2 ^ 63 }
-    ensures { tree result ≡ literal (integer (pos n)) }
+    ensures { tree result ≡ whole n }
 {
     Expr::Lit(Value::Int(n as i64))
 }

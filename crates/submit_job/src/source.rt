@@ -13,7 +13,7 @@ use std::alloc::Global;
 use submit_values::{Command, ValueError, expression, string_expression};
 
 /// Where an attribute of a job comes from.
-#[derive(Clone, Copy, Debug)]
+#[derive(Clone, Copy)]
 pub(crate) enum Source<'a> {
     /// The command `owner`.
     Owner,

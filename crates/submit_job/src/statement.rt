@@ -41,7 +41,7 @@ pub struct Statement<'a> {
 }
 
 /// What an attribute is, under which name, and where that is set.
-#[derive(Debug, Drop)]
+#[derive(Drop)]
 pub(crate) struct NamedValue<'a> {
     pub(crate) name: &'a str,
     pub(crate) value: Result<Option<Expr>, ValueError>,
@@ -49,7 +49,7 @@ pub(crate) struct NamedValue<'a> {
 }
 
 /// What a source gives: a value, or why its macros cannot be replaced.
-#[derive(Debug, Drop)]
+#[derive(Drop)]
 pub(crate) enum Contribution<'a> {
     Value(NamedValue<'a>),
     Refusal(SubmitError),
