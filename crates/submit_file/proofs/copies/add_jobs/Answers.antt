@@ -4,14 +4,14 @@ use Rattle.submit_file.specs.JobMacros.{variable_in, AreJobMacros}
 use Rattle.submit_file.proofs.JobMacros.{are_blocked, job_spared}
 use Rattle.submit_file.proofs.copies.add_jobs.Goals as goal
 
-pub add_jobs-requires-clause-plan : goal.add_jobs-requires-clause-plan
-add_jobs-requires-clause-plan c = λ t are.
+pub add_planned-requires-clause-plan : goal.add_planned-requires-clause-plan
+add_planned-requires-clause-plan c = λ t are.
     let over = c.args.queue.now.over in
     c.in_ok-plan.ensures.plan t
     (job_spared (variable_in over) c.args.statement.file.now.table c.args.table.now t c.requires.blocked (subst (λ (s : Statement). AreJobMacros (variable_in over) s.file.now.table t) c.in_ok-plan.ensures.statement are))
 
-pub add_jobs-requires-clause-table : goal.add_jobs-requires-clause-table
-add_jobs-requires-clause-table c =
+pub add_planned-requires-clause-table : goal.add_planned-requires-clause-table
+add_planned-requires-clause-table c =
     let over = c.args.queue.now.over in
     subst (λ (s : Statement). AreJobMacros (variable_in over) s.file.now.table c.args.table.now) (sym c.in_ok-plan.ensures.statement)
     (are_blocked (variable_in over) c.args.statement.file.now.table c.args.table.now c.requires.blocked)
