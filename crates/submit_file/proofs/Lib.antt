@@ -1,4 +1,4 @@
-pub mod Copies
+pub mod MadeJobs
 pub mod JobMacros
 pub mod Kept
 pub mod Names

@@ -18,7 +18,7 @@ use Rattle.submit_file.specs.SubmittedJobs.{line_error, AdsResult, MakesJobs, jo
 use Rattle.submit_job.specs.Settings.{with_setting}
 use Rattle.submit_job.specs.OneJob.{Common}
 use Rattle.submit_job.proofs.Takings.{unless}
-use Rattle.submit_file.proofs.Copies.{unless_map}
+use Rattle.submit_file.proofs.MadeJobs.{unless_map}
 
 pub not_if_true : {P : Type 0} (b : Bool) → (IsFalse b ↔ P) → b ≡ true → P → ⊥
 not_if_true b same is p = true≢false (sym is ∙ same.1 p)

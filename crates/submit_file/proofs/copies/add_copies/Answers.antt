@@ -1,7 +1,7 @@
 use Rattle.std.proofs.Common.{rules}
 use Rattle.submit_job.specs.OneJob.{common}
 use Rattle.submit_file.specs.JobMacros.{item_of}
-use Rattle.submit_file.proofs.Copies.{copies_err}
+use Rattle.submit_file.proofs.MadeJobs.{copies_err}
 use Rattle.submit_file.proofs.copies.add_copies.Goals as goal
 
 pub returns-in-Err-clause-made : goal.returns-in-Err-clause-made
