@@ -12,6 +12,8 @@ use Rattle.queue_tx.specs.Operations.{Operation, new_ad, destroy_ad, set_attr, d
 use Rattle.queue_tx.specs.Queues.{KeyedAds, IsQueue, ad_at, ad_after, put_back, with_ad, after_ops, after_rest, queue_after}
 use Rattle.queue_tx.specs.Room.{is_kept_name}
 use Rattle.queue_tx.proofs.Queues.{found_with, ordered_with}
+use Rattle.queue_tx.specs.Roomy.{HasRoom, IsRoomy}
+use Rattle.queue_tx.proofs.RoomKept.{no_attributes, set_room, without_room}
 use Rattle.queue_tx.proofs.Rooms.{room_for_the_pool}
 use Rattle.queue_tx.proofs.Transactions.{same_keys, sequence_is_one}
 use Rattle.schedd_plan.specs.declared.plan.Completion.{Completion}
@@ -19,8 +21,7 @@ use Rattle.schedd_plan.specs.declared.plan.Completion.TheVariants.{Exited, Signa
 use Rattle.schedd_plan.specs.declared.plan.JobPlan.{JobPlan}
 use Rattle.schedd_plan.specs.declared.plan.JobPlan.TheVariants as plan
 use Rattle.schedd_plan.specs.Plans.{job_of, plan_ops, idle_ops, held_ops, mark_held_ops, status_op, exit_ops, lease_ops, run_ops, next_run_ops, header_op, grant_ops}
-use Rattle.loggable.specs.Loggable.{HasRoom, IsRoomy, KnowsHeader}
-use Rattle.loggable.proofs.Rooms.{no_attributes, set_room, without_room}
+use Rattle.loggable.specs.Loggable.{KnowsHeader}
 
 -- ---- a queue in which certain keys stand
 abbrev pub Stands : Key → KeyedAds → Type 0

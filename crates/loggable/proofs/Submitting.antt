@@ -19,10 +19,11 @@ use Rattle.queue_tx.specs.Operations.{Operation, new_ad, set_attr}
 use Rattle.queue_tx.specs.Printable.{IsPrintable, IsPrintableAd}
 use Rattle.queue_tx.specs.Queues.{KeyedAds, IsQueue, ad_at, with_ad, queue_after}
 use Rattle.queue_tx.specs.Room.{most_own, is_kept_name, is_own, own_count, is_full_of_own, lacks_room}
+use Rattle.queue_tx.specs.Roomy.{HasRoom, IsRoomy}
 use Rattle.queue_tx.proofs.Queues.{found_with}
+use Rattle.queue_tx.proofs.RoomKept.{mine, mine_is, no_attributes, set_room}
 use Rattle.queue_tx.proofs.Transactions.{same_keys, sequence_is_one}
-use Rattle.loggable.specs.Loggable.{AreAds, AreLoggableJobs, CanBeLogged, HasRoom, IsNewCluster, IsRoomy}
-use Rattle.loggable.proofs.Rooms.{mine, mine_is, no_attributes, set_room}
+use Rattle.loggable.specs.Loggable.{AreAds, AreLoggableJobs, CanBeLogged, IsNewCluster}
 use Rattle.loggable.proofs.Doing.{IsReady, none_if, one_op, put, stands_if}
 use Rattle.loggable.proofs.Printing.{both_print, integer_prints, next_cluster, words_print}
 

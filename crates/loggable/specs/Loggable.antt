@@ -10,9 +10,9 @@ use Rattle.pool_submission.specs.Submissions.{job_numbered}
 use Rattle.queue_tx.specs.declared.key.Key.{Key}
 use Rattle.queue_tx.specs.declared.key.Key.TheVariants.{Header, Proc}
 use Rattle.queue_tx.specs.Operations.{Operation, new_ad, set_attr}
-use Rattle.queue_tx.specs.Printable.{IsPrintable, IsPrintableAd, IsPrintableKey}
+use Rattle.queue_tx.specs.Printable.{HasPrintableKeys, IsPrintable, IsPrintableAd, IsPrintableKey}
 use Rattle.queue_tx.specs.Queues.{KeyedAds, ad_at, queue_after}
-use Rattle.queue_tx.specs.Room.{most_own, own_count}
+use Rattle.queue_tx.specs.Roomy.{HasRoom, IsRoomy}
 use Rattle.schedd_plan.specs.declared.plan.Completion.{Completion}
 use Rattle.schedd_plan.specs.declared.plan.Completion.TheVariants.{Exited, Signalled}
 use Rattle.schedd_plan.specs.declared.plan.JobPlan.{JobPlan}
@@ -23,20 +23,6 @@ use Rattle.schedd_plan.specs.Plans.{job_of}
 pub record CanBeLogged (tx : List Operation) (q : KeyedAds) : Type 0 where
   pub done : IsOk (queue_after q tx)
   pub printable : IsPrintable tx
-
--- ---- a queue that has room
--- an ad that has room for each attribute that the pool sets under its key
-pub record HasRoom (key : Key) (ad : Attributes) : Type 0 where
-  pub ad_is : IsAd ad
-  pub own : own_count key ad ≤ most_own key
-
--- each ad of a queue has
-abbrev pub IsRoomy : KeyedAds → Type 0
-IsRoomy q = (key : Key) → IfSome (ad_at key q) (HasRoom key)
-
--- each key of a queue can be printed
-abbrev pub HasPrintableKeys : KeyedAds → Type 0
-HasPrintableKeys q = (key : Key) → IfSome (ad_at key q) (λ ad. IsPrintableKey key)
 
 -- a queue over which the pool's transactions can be logged
 pub record IsLoggableQueue (q : KeyedAds) : Type 0 where

@@ -3,12 +3,13 @@
 ghost use Rattle.std.specs.Prelude.{◌≡◌, ℕ, ◌<◌, ◌≤◌, ◌^◌, List, Ok, is_some, length};
 ghost use Rattle.ad_tree.specs.Ad.{Attributes};
 ghost use Rattle.job_ads.specs.Submitted.{AreSubmitted};
-ghost use Rattle.loggable.specs.Loggable.{AreAds, AreLoggableJobs, BringsPrintableKeys, CanBeLogged, HasPrintableKeys, IsLoggablePlan, IsLoggableQueue, IsNewCluster, IsRoomy};
+ghost use Rattle.loggable.specs.Loggable.{AreAds, AreLoggableJobs, BringsPrintableKeys, CanBeLogged, IsLoggablePlan, IsLoggableQueue, IsNewCluster};
 ghost use Rattle.pool_submission.specs.Submissions.{submission_ops};
 ghost use Rattle.queue_tx.specs.declared.key.Key.TheVariants.{Header};
 ghost use Rattle.queue_tx.specs.Operations.{Operation};
-ghost use Rattle.queue_tx.specs.Printable.{IsPrintableQueue};
+ghost use Rattle.queue_tx.specs.Printable.{HasPrintableKeys, IsPrintableQueue};
 ghost use Rattle.queue_tx.specs.Queues.{KeyedAds, IsQueue, QueueOf, ad_at, queue_after};
+ghost use Rattle.queue_tx.specs.Roomy.{IsRoomy};
 ghost use Rattle.schedd_plan.specs.declared.plan.JobPlan.{JobPlan};
 ghost use Rattle.schedd_plan.specs.Plans.{plan_ops};
 

@@ -41,6 +41,9 @@ use Rattle.pool_state.specs.declared.opening.Opening.{Opening}
 use Rattle.pool_state.specs.declared.state.PoolState.{PoolState}
 use Rattle.pool_tables.specs.declared.refusal.StepError.{StepError}
 use Rattle.queue_tx.specs.Operations.{Operation}
+use Rattle.queue_tx.specs.Printable.{HasPrintableKeys}
+use Rattle.queue_tx.specs.Queues.{KeyedAds, IsQueue, ad_at}
+use Rattle.queue_tx.specs.Roomy.{HasRoom, IsRoomy}
 use Rattle.pool_view.specs.AbstractPool.{AbstractPool}
 use Rattle.pool_view.specs.Safe.{Safe}
 use Rattle.pool_view.specs.Views.{pool_of}
@@ -58,9 +61,16 @@ plans_short None own short = tt
 plans_short (Some p) own short = short_by p.what p.tx own short
 
 -- ---- a pool opens
-pub opened_kept : (o : Opening) (s : PoolState) → CanOpen o → IsLoggableQueue o.queue → IsOrdered o.queue → IsOpenedBy o s → IsKeptPool s
-opened_kept o s can loggable queue opened =
-    let k = opening_is_kept o s can queue opened in
+-- an ad that has room has no name twice
+pub names_differ : (q : KeyedAds) → IsQueue q → IsRoomy q → IsOrdered q
+names_differ q ordered roomy = record {
+  keys = ordered;
+  names = λ key ad at. let has : HasRoom key ad = subst (λ o. IfSome o (HasRoom key)) at (roomy key) in has.ad_is.0;
+}
+
+pub opened_kept : (o : Opening) (s : PoolState) → CanOpen o → HasPrintableKeys o.queue → IsQueue o.queue → IsRoomy o.queue → IsOpenedBy o s → IsKeptPool s
+opened_kept o s can keys ordered roomy opened =
+    let k = opening_is_kept o s can (names_differ o.queue ordered roomy) opened in
     record {
       protocol = k.0;
       kept = k.1;
@@ -68,7 +78,7 @@ opened_kept o s can loggable queue opened =
       counted = opening_counted o s opened;
       few_jobs = opening_few_jobs o s can opened;
       within = opening_within o s can opened;
-      loggable = subst IsLoggableQueue (sym opened.queue) loggable;
+      loggable = subst IsLoggableQueue (sym opened.queue) (record { roomy = roomy; keys = keys });
       finishes = subst (λ (x : Option Pending). IfSome x (λ p. CanBeLogged p.tx s.queue)) (sym opened.pending) tt;
     }
 

@@ -4,7 +4,6 @@ pub mod Counting
 pub mod Growing
 pub mod Keeping
 pub mod LiveOnes
-pub mod QueueNames
 pub mod Receiving
 pub mod Refusing
 pub mod Resting

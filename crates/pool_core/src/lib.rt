@@ -6,7 +6,6 @@ mod events;
 mod happening;
 mod history;
 pub mod laws;
-mod names;
 mod pool;
 
 pub use history::{Faults, History, Step, StepList};

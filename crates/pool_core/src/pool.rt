@@ -24,12 +24,12 @@ ghost use Rattle.pool_tables.specs.MailLists.{IsMailTo, IsNextMail, IsOfPool, ma
 ghost use Rattle.pool_view.specs.AbstractPool.{AbstractPool};
 ghost use Rattle.pool_view.specs.Safe.{Safe};
 ghost use Rattle.pool_view.specs.Views.{pool_of};
+ghost use Rattle.queue_tx.specs.Printable.{HasPrintableKeys};
 ghost use Rattle.schedd_state.specs.DueChecks.{IsFirstDue};
 ghost use Rattle.schedd_state.specs.Reopening.{IsReader};
 ghost use Rattle.schedd_core.specs.ScheddParts.{IsOrdered};
 
 use crate::happening;
-use crate::names::go_over_names;
 use ad_tree::Ad;
 use ad_value::{Copied, Memory};
 use claim_id::{JobId, SlotId};
@@ -78,11 +78,11 @@ impl Pool {
     /// looked at, and tells that its names differ.
     pub fn open(alloc: Global, opening: Opening) -> Result<Pool, Memory>
         requires can { CanOpen opening }
-        requires loggable { IsLoggableQueue opening.queue }
+        requires keys { HasPrintableKeys opening.queue }
         ensures opened { IfOk result (IsOpenedBy opening) }
         ensures ordered { OnOk result (IsOrdered opening.queue) }
     {
-        go_over_names(&opening.queue);
+        opening.queue.room();
         let state = PoolState::open(alloc, opening)?;
         Ok(Pool { state })
     }

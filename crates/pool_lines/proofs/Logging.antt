@@ -8,7 +8,7 @@ use Rattle.ad_tree.specs.declared.ad.TheConstants.{MAX_ATTRIBUTES}
 use Rattle.ad_tree.specs.Ad.{AreDistinct, Attributes}
 use Rattle.ad_tree.specs.Tree.{Tree}
 use Rattle.claim_id.specs.declared.numbers.JobId.{JobId}
-use Rattle.loggable.specs.Loggable.{HasRoom}
+use Rattle.queue_tx.specs.Roomy.{HasRoom}
 use Rattle.queue_tx.specs.declared.key.Key.TheVariants.{Proc}
 use Rattle.queue_tx.specs.declared.names.TheConstants.{MAX_OWN_OF_PROC}
 use Rattle.queue_tx.specs.Printable.{IsPrintableAd}

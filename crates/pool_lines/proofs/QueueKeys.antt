@@ -1,12 +1,11 @@
 -- A walk over the keys of a queue, by which each can be printed.
 use Rattle.std.proofs.Common.{◌≡◌, ◌<◌, Bool, true, false, cond, [], ◌∷◌, length, Option, Some, None, IfSome, refl, sym, subst}
 use Rattle.ad_tree.specs.Ad.{Attributes}
-use Rattle.loggable.specs.Loggable.{HasPrintableKeys}
 use Rattle.pool_past.proofs.Walks.{all_at_first, next_key, no_key, rest_of}
 use Rattle.queue_tx.specs.declared.key.Key.{Key}
 use Rattle.queue_tx.proofs.Transactions.{same_keys}
 use Rattle.queue_tx.specs.Keys.{same_key}
-use Rattle.queue_tx.specs.Printable.{IsPrintableKey}
+use Rattle.queue_tx.specs.Printable.{HasPrintableKeys, IsPrintableKey}
 use Rattle.queue_tx.specs.Queues.{IsQueue, KeyedAds, ad_at, key_after}
 
 -- each key of a list can be printed

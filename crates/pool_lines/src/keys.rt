@@ -1,8 +1,7 @@
 // Whether the keys of a queue can be printed.
 
 ghost use Rattle.std.specs.Prelude.{◌≡◌, true};
-ghost use Rattle.loggable.specs.Loggable.{HasPrintableKeys};
-ghost use Rattle.queue_tx.specs.Printable.{IsPrintableKey};
+ghost use Rattle.queue_tx.specs.Printable.{HasPrintableKeys, IsPrintableKey};
 ghost use Rattle.queue_tx.specs.Queues.{IsQueue};
 
 use claim_id::JobId;

@@ -6,7 +6,6 @@ mod events;
 mod fields;
 mod judging;
 mod keys;
-mod log_queue;
 mod loggable_jobs;
 mod opening;
 mod outcome;

@@ -3,10 +3,11 @@
 ghost use Rattle.std.specs.Prelude.{◌≡◌, IfSome, IsTrue, Some, slice_get};
 ghost use Rattle.ad_tree.specs.Tree.{tree};
 ghost use Rattle.claim_id.specs.declared.numbers.JobId.{JobId};
-ghost use Rattle.loggable.specs.Loggable.{AreLoggableJobs, HasRoom, IsLoggableJob};
+ghost use Rattle.loggable.specs.Loggable.{AreLoggableJobs, IsLoggableJob};
 ghost use Rattle.pool_lines.specs.Logged.{IsPrintableAttribute};
 ghost use Rattle.queue_tx.specs.declared.key.Key.TheVariants.{Proc};
 ghost use Rattle.queue_tx.specs.Printable.{IsPrintableAd, IsPrintableTree};
+ghost use Rattle.queue_tx.specs.Roomy.{HasRoom};
 
 use ad_parse::{parse_expr, print_expr};
 use ad_token::is_name;

@@ -1,9 +1,9 @@
 // Whether a pool may open.
 
 ghost use Rattle.std.specs.Prelude.{◌≡◌, IfOk, IfSome, true};
-ghost use Rattle.loggable.specs.Loggable.{HasPrintableKeys};
 ghost use Rattle.pool_lines.specs.Opened.{HasLittle, HasMachineCount, HasMachines};
 ghost use Rattle.pool_state.specs.Openings.{CanOpen};
+ghost use Rattle.queue_tx.specs.Printable.{HasPrintableKeys};
 
 use crate::keys::has_printable_keys;
 use ad_value::Memory;

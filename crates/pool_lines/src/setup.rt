@@ -1,10 +1,8 @@
 // What a pool opens with.
 
 ghost use Rattle.std.specs.Prelude.{◌≡◌};
-ghost use Rattle.loggable.specs.Loggable.{IsRoomy};
 
 use crate::fields::Fields;
-use crate::log_queue::LogQueue;
 use crate::outcome::memory;
 use ad_value::{Seq, Text};
 use cases::{Case, CaseError};
@@ -13,8 +11,8 @@ use pool_event::Allow;
 use pool_mail::{Ending, Settings, SlotAd, SlotAdList};
 use pool_outer::Daemon;
 use pool_state::Opening;
-use queue_record::RecordError;
-use queue_tx::Tx;
+use queue_record::{ReadLog, Reader, RecordError};
+use queue_tx::{Queue, Tx};
 use receipt_roll::Mark;
 use slot_state::Pair;
 use std::alloc::Global;
@@ -26,7 +24,7 @@ pub struct SetUp {
     secret_key: u64,
     settings: Settings,
     slots: SlotAdList,
-    queue: LogQueue,
+    queue: Queue,
     next_tx: u64,
     wishes: Seq<Wish>,
     crashes: Seq<Daemon>,
@@ -100,12 +98,10 @@ impl SetUp {
         }
     }
 
-    /// What the pool opens with, by the marks of its rolls. Its queue has room for what the pool
-    /// sets. Computes in O(1).
+    /// What the pool opens with, by the marks of its rolls. Computes in O(1).
     pub fn into_opening(self, log_mark: Mark<Tx>, end_marks: Vec<Mark<Ending>>) -> Opening
         ensures log { result.log_mark ≡ log_mark }
         ensures ends { result.end_marks.items ≡ end_marks.items }
-        ensures room { IsRoomy result.queue }
     {
         let SetUp {
             line: _,
@@ -124,7 +120,7 @@ impl SetUp {
             settings,
             wishes,
             allow: Allow { crashes, repeats },
-            queue: queue.into_queue(),
+            queue,
             next_tx,
             log_mark,
             end_marks,
@@ -141,7 +137,7 @@ impl SetUp {
     fn set_queue(&mut self, alloc: Global, fields: &mut Fields<'_>) -> Result<(), CaseError> {
         self.next_tx = fields.natural()?;
         let bytes = fields.bytes(alloc)?;
-        match LogQueue::of(alloc, &bytes) {
+        match queue_of(alloc, &bytes) {
             Ok(queue) => self.queue = queue,
             Err(RecordError::Memory) => return Err(CaseError::Memory),
             Err(_) => return Err(fields.form()),
@@ -198,12 +194,24 @@ fn new_pool(alloc: Global, case: Case<'_>, fields: &mut Fields<'_>) -> Result<Se
         secret_key,
         settings,
         slots: SlotAdList::new(alloc),
-        queue: LogQueue::empty(),
+        queue: Queue::new(),
         next_tx: 0,
         wishes: Seq::new(alloc),
         crashes: Seq::new(alloc),
         repeats: Seq::new(alloc),
     })
+}
+
+// The queue of a log of these bytes.
+fn queue_of(alloc: Global, bytes: &[u8]) -> Result<Queue, RecordError> {
+    let mut reader = Reader::new(alloc);
+    match reader.feed(bytes) {
+        Ok(()) => {
+            let ReadLog { queue, .. } = reader.end();
+            Ok(queue)
+        }
+        Err(error) => Err(error),
+    }
 }
 
 fn settings_of(fields: &mut Fields<'_>) -> Result<Settings, CaseError> {

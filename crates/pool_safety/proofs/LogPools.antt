@@ -21,6 +21,7 @@ use Rattle.queue_tx.specs.declared.key.Key.TheVariants.{Proc}
 use Rattle.queue_tx.specs.Kinds.{kind_of}
 use Rattle.queue_tx.specs.Operations.{Operation}
 use Rattle.queue_tx.specs.Queues.{KeyedAds, IsQueue, ad_at, queue_after}
+use Rattle.queue_tx.proofs.RoomKept.{either_false}
 use Rattle.schedd_core.specs.ScheddParts.{IsFitting, IsThere}
 use Rattle.schedd_state.specs.Reopening.{is_under_at, under_by}
 use Rattle.schedd_plan.specs.declared.plan.JobPlan.{JobPlan}
@@ -35,7 +36,6 @@ use Rattle.loggable.specs.Loggable.{AreLoggableJobs, CanBeLogged, HasShortNumber
 use Rattle.pool_safety.specs.Unfinished.{CanFinish}
 use Rattle.pool_safety.specs.Parts.{awaited_by, awaited_of, parts_of}
 use Rattle.loggable.proofs.PlanLogs.{plan_logs}
-use Rattle.loggable.proofs.Rooms.{either_false}
 use Rattle.loggable.proofs.Submitting.{submission_logs}
 use Rattle.pool_safety.proofs.Refusing.{first_none, then_none}
 use Rattle.pool_safety.proofs.ScheddClusters.{next_is_number}

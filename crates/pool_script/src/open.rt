@@ -1,7 +1,6 @@
 // A pool that is open, with its rolls.
 
 ghost use Rattle.std.specs.Prelude.{◌≡◌, IfOk, OnOk};
-ghost use Rattle.loggable.specs.Loggable.{IsRoomy};
 ghost use Rattle.pool_lines.specs.Marks.{IsGivenBy};
 ghost use Rattle.pool_script.specs.Driven.{IsDriven, is_of};
 ghost use Rattle.pool_state.specs.Openings.{CanOpen, IsOpenedBy};
@@ -264,7 +263,6 @@ fn open_with(alloc: Global, setup: SetUp, rolls: &Rolls) -> Result<Pool, CaseErr
 }
 
 fn open_opening(alloc: Global, opening: Opening, fault: CaseError) -> Result<Pool, CaseError>
-    requires { IsRoomy opening.queue }
     ensures can { OnOk result (CanOpen opening) }
     ensures opened { IfOk result (IsOpenedBy opening) }
 {

@@ -16,9 +16,10 @@ use Rattle.queue_tx.specs.declared.error.ApplyError.TheVariants.{Full}
 use Rattle.queue_tx.specs.declared.key.Key.{Key}
 use Rattle.queue_tx.specs.Keys.{key_cmp, same_key}
 use Rattle.queue_tx.specs.Operations.{Operation, key_of, new_ad, destroy_ad, set_attr, delete_attr}
-use Rattle.queue_tx.specs.Printable.{IsPrintable, IsPrintableOp, IsPrintableKey, IsPrintableName}
+use Rattle.queue_tx.specs.Printable.{HasPrintableKeys, IsPrintable, IsPrintableOp, IsPrintableKey, IsPrintableName}
 use Rattle.queue_tx.specs.Queues.{KeyedAds, ad_at, ad_after, with_ad, put_back, after_op, after_ops, after_rest, queue_after}
 use Rattle.queue_tx.specs.Room.{lacks_room}
+use Rattle.queue_tx.proofs.Transactions.{same_keys}
 use Rattle.queue_record.specs.Texts.{first_long, is_long, op_line}
 use Rattle.queue_log.specs.Writable.{IsWritableTree, IsWritableAd, IsWritableQueue, PutsWritable, AllPutWritable}
 
@@ -140,3 +141,12 @@ first_fits o os h = by (is_long o) refl (first_long os) refl h
 pub printed_puts : (os : List Operation) → IsPrintable os → first_long os ≡ None → AllPutWritable os
 printed_puts [] p h = tt
 printed_puts (o ∷ os) p h = let fits = first_fits o os h in (one_written o p.0 fits.0, printed_puts os p.1 fits.1)
+
+-- ---- the keys of a queue that can be written
+pub keys_printable : (q : KeyedAds) → IsWritableQueue q → HasPrintableKeys q
+keys_printable [] w key = tt
+keys_printable (e ∷ q) w key = by (same_key key e.0) refl (keys_printable q w.2 key)
+  where
+    by : (b : Bool) → same_key key e.0 ≡ b → IfSome (ad_at key q) (λ ad. IsPrintableKey key) → IfSome (cond b (Some e.1) (ad_at key q)) (λ ad. IsPrintableKey key)
+    by true is rest = subst IsPrintableKey (sym (same_keys key e.0 is)) w.0
+    by false is rest = rest

@@ -4,7 +4,7 @@ ghost use Rattle.pool_outer.specs.Cause.{HasCause};
 ghost use Rattle.pool_outer.specs.declared.store.StoreError.TheVariants.{Failed};
 ghost use Rattle.pool_outer.specs.Files.{bytes_in, Leaves};
 ghost use Rattle.queue_tx.specs.Operations.{Operation};
-ghost use Rattle.queue_tx.specs.Printable.{IsPrintable};
+ghost use Rattle.queue_tx.specs.Printable.{HasPrintableKeys, IsPrintable};
 ghost use Rattle.queue_tx.specs.Queues.{KeyedAds, QueueOf, queue_after};
 ghost use Rattle.queue_record.specs.Texts.{first_long, tx_text};
 ghost use Rattle.solid_file.specs.Moments.{LeavesOnly};
@@ -88,6 +88,7 @@ impl<D: Store> Log<D> {
         ensures queue { result.now ≡ self.now.queue }
         ensures builds { QueueOf self.now.list self.now.queue }
         ensures writable { IsWritableQueue self.now.queue }
+        ensures keys { HasPrintableKeys self.now.queue }
     {
         self.logged.queue()
     }

@@ -1,6 +1,6 @@
 -- That the queue keeps its idle jobs by what they ask for.
-use Rattle.std.proofs.Common.{◌≡◌, ℕ, Bool, true, false, true≢false, not, cond, List, [], ◌∷◌, Option, Some, None, is_some, IfSome, refl, ap, sym, ◌∙◌, subst}
-use Rattle.std.specs.Prelude.{find, MatchOption, IsSomeAnd}
+use Rattle.std.proofs.Common.{◌≡◌, ℕ, Bool, true, false, true≢false, not, cond, List, [], Option, Some, None, is_some, IfSome, refl, ap, sym, ◌∙◌, subst}
+use Rattle.std.specs.Prelude.{find, IsSomeAnd}
 use Rattle.std.specs.declared.cmp.Ordering.{Ordering}
 use Rattle.std.specs.declared.cmp.Ordering.TheVariants.{Less, Equal, Greater}
 use Rattle.std.specs.declared.ops.Bound.{Bound}
@@ -22,9 +22,9 @@ use Rattle.queue_tx.specs.declared.kept.Here.{Here}
 use Rattle.queue_tx.specs.declared.key.Key.{Key}
 use Rattle.queue_tx.specs.declared.key.Key.TheVariants.{Header, Proc}
 use Rattle.queue_tx.specs.declared.kind.JobKind.TheVariants.{Idle}
-use Rattle.queue_tx.specs.Asked.{asked_cmp, asked_cmp_total, same_place, place, place_of, IdleNamesDiffer, asked_under, is_place, has_place, SetsPlaces, ArePlaces, DoIdleNamesDiffer, IsListed, least_from, is_past_from, IsAskedBy}
+use Rattle.queue_tx.specs.Asked.{asked_cmp, asked_cmp_total, same_place, place, IdleNamesDiffer, asked_under, is_place, has_place, SetsPlaces, ArePlaces, DoIdleNamesDiffer, IsListed, least_from, is_past_from, IsAskedBy}
 use Rattle.queue_tx.specs.Keys.{key_cmp, same_key}
-use Rattle.queue_tx.specs.Jobs.{kind_under, kind_at, IsJobOf, IsFirstKey, FirstKey}
+use Rattle.queue_tx.specs.Jobs.{kind_under, IsJobOf, IsFirstKey, FirstKey}
 use Rattle.queue_tx.specs.Kept.{is_kind}
 use Rattle.queue_tx.specs.Queues.{KeyedAds, IsQueue, ad_at, with_ad}
 use Rattle.queue_tx.specs.RequestDigests.{request_digest}

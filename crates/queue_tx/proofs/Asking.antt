@@ -1,14 +1,13 @@
 -- The first idle job that makes a request, one idle job after the other.
-use Rattle.std.proofs.Common.{◌≡◌, ◌⊎◌, inl, inr, ℕ, ◌+◌, ◌<◌, ◌≤◌, Bool, true, false, not, cond, List, [], ◌∷◌, Option, Some, None, is_some, refl, ap, sym, ◌∙◌, subst, arith}
-use Rattle.std.specs.Prelude.{IsSomeAnd, MatchOption}
+use Rattle.std.proofs.Common.{◌≡◌, ◌⊎◌, inl, inr, ℕ, ◌+◌, ◌<◌, ◌≤◌, Bool, true, false, cond, [], ◌∷◌, Option, Some, None, is_some, refl, ap, sym, ◌∙◌, subst, arith}
+use Rattle.std.specs.Prelude.{IsSomeAnd}
 use Rattle.std.specs.declared.cmp.Ordering.{Ordering}
 use Rattle.std.specs.declared.cmp.Ordering.TheVariants.{Less, Equal, Greater}
 use Rattle.std.specs.declared.ops.Bound.{Bound}
-use Rattle.std.specs.declared.ops.Bound.TheVariants.{Included, Excluded, Unbounded}
+use Rattle.std.specs.declared.ops.Bound.TheVariants.{Excluded}
 use denote.Ref.{Bor}
-use Rattle.std.specs.Ordering.{is_eq, is_lt, is_gt}
+use Rattle.std.specs.Ordering.{is_lt, is_gt}
 use Rattle.std.specs.Cmp.{tied_itself}
-use Rattle.std.specs.Map.{lookup}
 use Rattle.ad_tree.specs.Ad.{Attributes}
 use Rattle.ordered_map.specs.Trees.{is_past}
 use Rattle.ordered_map.proofs.Orders.{not_past_below}
@@ -17,7 +16,7 @@ use Rattle.queue_tx.specs.declared.key.Key.TheVariants.{Header, Proc}
 use Rattle.queue_tx.specs.declared.kind.JobKind.{JobKind}
 use Rattle.queue_tx.specs.declared.kind.JobKind.TheVariants.{Idle}
 use Rattle.queue_tx.specs.Keys.{key_cmp, key_cmp_total, same_key}
-use Rattle.queue_tx.specs.Jobs.{kind_under, kind_at, IsJobOf, IsFirstKey, FirstKey}
+use Rattle.queue_tx.specs.Jobs.{kind_under, IsJobOf, IsFirstKey}
 use Rattle.queue_tx.specs.Queues.{KeyedAds, ad_at}
 use Rattle.queue_tx.specs.Requests.{SameRequest, IsIdleAsking}
 use Rattle.queue_tx.specs.Asked.{IsAskedBy}

@@ -2,17 +2,16 @@
 use Rattle.std.proofs.Common.{◌≡◌, Bool, true, false, cond, List, [], ◌∷◌, ◌++◌, Option, Some, None, refl}
 use Rattle.std.specs.declared.cmp.Ordering.{Ordering}
 use Rattle.std.specs.declared.cmp.Ordering.TheVariants.{Less}
-use Rattle.std.specs.List.{All, AllByRecursion, filter}
+use Rattle.std.specs.List.{AllByRecursion, filter}
 use Rattle.std.specs.List.Sorted.{IsStrictlySortedBy, IsPermutation}
 use Rattle.std.specs.Map.{keys_of}
 use Rattle.std.proofs.lemmas.List.Elements.{filter_passes}
 use Rattle.std.proofs.lemmas.List.Sorted.{IsPermutation-refl, IsPermutation-trans, IsPermutation-cons, IsPermutation-middle, IsPermutation-append_right}
-use Rattle.queue_tx.specs.declared.key.Key.{Key}
 use Rattle.queue_tx.specs.declared.kind.JobKind.{JobKind}
 use Rattle.queue_tx.specs.declared.kind.JobKind.TheVariants.{Idle, Held, Under}
 use Rattle.queue_tx.specs.Jobs.{kind_at}
 use Rattle.queue_tx.specs.Keys.{key_cmp}
-use Rattle.queue_tx.specs.KindLists.{is_proc, procs, is_same_kind, procs_of, KindsPartTheProcs}
+use Rattle.queue_tx.specs.KindLists.{is_proc, procs, is_same_kind, KindsPartTheProcs}
 use Rattle.queue_tx.proofs.KeptJobs.{kind_from}
 
 -- ---- together they are all

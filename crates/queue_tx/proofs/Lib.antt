@@ -7,6 +7,7 @@ pub mod PeriodicJobs
 pub mod Undone
 pub mod RequestLemmas
 pub mod Rooms
+pub mod RoomKept
 pub mod RequestDigests
 pub mod AskedJobs
 pub mod KindParts

@@ -15,7 +15,7 @@ use Rattle.queue_tx.specs.declared.kept.Here.{Here}
 use Rattle.queue_tx.specs.Keys.{key_cmp, key_cmp_total, same_key}
 use Rattle.queue_tx.specs.Jobs.{IsFirstKey}
 use Rattle.queue_tx.specs.Kept.{has_key, SetsKey}
-use Rattle.queue_tx.specs.Periodic.{is_periodic, IsPeriodic, periodic_key, ArePeriodic, IsReadyPeriodic, KeepsKey}
+use Rattle.queue_tx.specs.Periodic.{is_periodic, IsPeriodic, ArePeriodic, IsReadyPeriodic, KeepsKey}
 use Rattle.queue_tx.specs.Queues.{KeyedAds, IsQueue, ad_at, with_ad}
 use Rattle.queue_tx.proofs.Queues.{found_with}
 use Rattle.queue_tx.proofs.Transactions.{same_keys}

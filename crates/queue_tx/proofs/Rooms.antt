@@ -11,17 +11,17 @@ use Rattle.ad_tree.specs.NameLaws.{same_name_equivalence}
 use Rattle.ad_parse.specs.AdText.{is_full_for}
 use Rattle.queue_tx.specs.declared.key.Key.{Key}
 use Rattle.queue_tx.specs.declared.key.Key.TheVariants.{Header, Proc}
-use Rattle.queue_tx.specs.Room.{kept_names, most_own, is_kept_name, is_own, own_count, is_full_of_own, lacks_room}
+use Rattle.queue_tx.specs.Room.{kept_names, most_own, is_kept_name, own_count, is_full_of_own}
 use Rattle.queue_tx.specs.Laws.{RoomForThePool}
 use Rattle.queue_tx.proofs.RequestLemmas.{lookup_alike}
 
 -- ---- how many pass, from the front
 
-abbrev tally : {X : Type 0} → (X → Bool) → List X → ℕ
+abbrev pub tally : {X : Type 0} → (X → Bool) → List X → ℕ
 tally p [] = 0
 tally p (x ∷ xs) = cond (p x) (1 + tally p xs) (tally p xs)
 
-tally_is : {X : Type 0} (p : X → Bool) (xs : List X) → tally p xs ≡ count_by p xs
+pub tally_is : {X : Type 0} (p : X → Bool) (xs : List X) → tally p xs ≡ count_by p xs
 tally_is p xs = is_count_by (tally p) p refl (λ x xs. refl) xs
 
 tally_both : {X : Type 0} (p : X → Bool) (xs : List X) → tally (λ x. not (p x)) xs + tally p xs ≡ length xs

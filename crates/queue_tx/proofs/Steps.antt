@@ -1,5 +1,5 @@
 -- Operations one after the other.
-use Rattle.std.proofs.Common.{◌≡◌, ℕ, zero, suc, ◌+◌, ◌<◌, ◌≤◌, List, [], ◌∷◌, length, map, drop, get_or, Option, Result, Ok, Err, refl, ap, sym, ◌∙◌, arith}
+use Rattle.std.proofs.Common.{◌≡◌, ℕ, zero, suc, ◌+◌, ◌<◌, ◌≤◌, List, [], ◌∷◌, length, map, drop, get_or, Option, Ok, Err, refl, ap, sym, ◌∙◌, arith}
 use Rattle.std.specs.Map.{remove_entry}
 use Rattle.std.specs.BTreeMap.{insert_entry}
 use Rattle.ad_tree.specs.Ad.{Attributes}
@@ -8,7 +8,7 @@ use Rattle.queue_tx.specs.declared.key.Key.{Key}
 use Rattle.queue_tx.specs.declared.op.Op.{Op}
 use Rattle.queue_tx.specs.Keys.{key_cmp, same_key}
 use Rattle.queue_tx.specs.Operations.{Operation, operation, key_of}
-use Rattle.queue_tx.specs.Queues.{KeyedAds, Changes, IsQueue, ad_at, ad_after, with_ad, with_changes, put_back, after_op, after_ops, after_rest}
+use Rattle.queue_tx.specs.Queues.{KeyedAds, Changes, IsQueue, ad_at, ad_after, with_changes, put_back, after_op, after_ops, after_rest}
 use Rattle.queue_tx.proofs.Queues.{AreChanges, changed_again}
 
 -- ---- an operation over changes

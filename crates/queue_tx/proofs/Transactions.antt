@@ -1,17 +1,16 @@
 -- Transactions by their operations.
-use Rattle.std.proofs.Common.{◌≡◌, ◌↔◌, ℕ, zero, suc, ◌+◌, Bool, true, false, cond, List, [], ◌∷◌, ◌++◌, length, Option, Some, None, Result, Ok, Err, refl, ap, sym, ◌∙◌, subst, arith}
+use Rattle.std.proofs.Common.{◌≡◌, ℕ, suc, ◌+◌, Bool, true, false, cond, List, [], ◌∷◌, ◌++◌, length, Option, Some, None, Result, Ok, Err, refl, ap, sym, ◌∙◌, subst, arith}
 use Rattle.std.specs.Ordering.{is_eq}
 use Rattle.std.specs.declared.cmp.Ordering.{Ordering}
 use Rattle.std.specs.declared.cmp.Ordering.TheVariants.{Less, Equal, Greater}
 use Rattle.ad_tree.specs.Ad.{Attributes, with_attribute}
 use Rattle.queue_tx.specs.declared.error.ApplyError.{ApplyError}
-use Rattle.queue_tx.specs.declared.error.ApplyError.TheVariants.{NoKey, KeyThere, Full, Memory}
-use Rattle.queue_tx.specs.declared.key.Key.{Key}
-use Rattle.queue_tx.specs.Keys.{key_cmp, same_key, same_key_laws}
+use Rattle.queue_tx.specs.declared.error.ApplyError.TheVariants.{Full}
+use Rattle.queue_tx.specs.Keys.{key_cmp, same_key_laws}
 use Rattle.queue_tx.specs.Operations.{Operation, key_of, new_ad, destroy_ad, set_attr, delete_attr}
-use Rattle.queue_tx.specs.Queues.{KeyedAds, IsQueue, ad_at, ad_after, with_ad, put_back, after_op, after_ops, after_rest, queue_after}
+use Rattle.queue_tx.specs.Queues.{KeyedAds, IsQueue, ad_at, ad_after, with_ad, put_back, after_op, after_ops, after_rest}
 use Rattle.queue_tx.specs.Room.{lacks_room}
-use Rattle.queue_tx.specs.Laws.{SameKeysAreEqual, ChangesItsKey, LeavesOtherKeys, StaysAQueue, SequenceIsOne, RefusesTheFirst, IsFirstRefused}
+use Rattle.queue_tx.specs.Laws.{SameKeysAreEqual, ChangesItsKey, LeavesOtherKeys, StaysAQueue, SequenceIsOne, RefusesTheFirst}
 use Rattle.queue_tx.proofs.Queues.{exact_keys, found_with, ordered_with}
 
 pub same_keys : SameKeysAreEqual

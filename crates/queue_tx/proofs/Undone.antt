@@ -1,6 +1,5 @@
 -- That a change is undone.
-use Rattle.std.proofs.Common.{◌≡◌, Bool, true, false, cond, List, [], ◌∷◌, Option, refl, ap, ◌∙◌}
-use Rattle.ad_tree.specs.Ad.{Attributes}
+use Rattle.std.proofs.Common.{◌≡◌, Bool, true, false, cond, [], ◌∷◌, refl, ap, ◌∙◌}
 use Rattle.queue_tx.specs.declared.key.Key.{Key}
 use Rattle.queue_tx.specs.Keys.{same_key}
 use Rattle.queue_tx.specs.Prepared.{undo_of}

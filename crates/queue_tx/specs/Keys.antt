@@ -1,5 +1,5 @@
 -- The order of keys: the header comes first, then the procs by cluster and by number.
-use Rattle.std.specs.Prelude.{◌≡◌, ℕ, Bool, true, Option, Some, None}
+use Rattle.std.specs.Prelude.{ℕ, Bool, true, Option, Some, None}
 use Rattle.std.specs.Cmp.{IsTotalOrder, then_total, on_total, nat_cmp_total, eq_by_cmp_equiv, partial_equiv_from_equiv, partial_order_from_total, IsEquivalence, IsPartialEquivalence, IsPartialOrder}
 use Rattle.std.specs.Ordering.{nat_cmp, on, then_cmp, as_partial_cmp, eq_by_cmp, is_lt}
 use Rattle.std.specs.declared.cmp.Ordering.{Ordering}

@@ -2,6 +2,7 @@ pub mod Operations
 pub mod OperationCode
 pub mod Keys
 pub mod Room
+pub mod Roomy
 pub mod Kinds
 pub mod Queues
 pub mod Printable

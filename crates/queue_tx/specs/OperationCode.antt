@@ -3,7 +3,6 @@ use Rattle.std.specs.Prelude.{◌≡◌, ◌⊎◌, ℕ, List, refl}
 use Rattle.std.specs.Coded.{Coded, code_by, coded×, coded⊎, coded_list, coded_ℕ}
 use base.Stored.{coded_unit}
 use mathlib.Core.Logic.{inl, inr}
-use Rattle.claim_id.specs.declared.numbers.JobId.{JobId}
 use Rattle.ad_tree.specs.Tree.{Tree}
 use Rattle.ad_tree.specs.TreeCode.{tree_code}
 use Rattle.queue_tx.specs.declared.key.Key.{Key}

@@ -1,5 +1,5 @@
 -- What a transaction must be so that its text says it: its parts have forms that a log's line has.
-use Rattle.std.specs.Prelude.{◌≡◌, ◌≢◌, ℕ, true, List, [], ◌∷◌}
+use Rattle.std.specs.Prelude.{◌≡◌, ◌≢◌, ℕ, true, List, [], ◌∷◌, IfSome}
 use Rattle.claim_id.specs.Texts.{IsJob}
 use Rattle.ad_tree.specs.Tree.{Tree}
 use Rattle.ad_tree.specs.Ad.{Attributes}
@@ -11,7 +11,7 @@ use Rattle.ad_parse.specs.Canon.{canon}
 use Rattle.queue_tx.specs.declared.key.Key.{Key}
 use Rattle.queue_tx.specs.declared.key.Key.TheVariants.{Header, Proc}
 use Rattle.queue_tx.specs.Operations.{Operation, new_ad, destroy_ad, set_attr, delete_attr}
-use Rattle.queue_tx.specs.Queues.{KeyedAds}
+use Rattle.queue_tx.specs.Queues.{KeyedAds, ad_at}
 
 -- a cluster from 1, and numbers of 32 bits
 abbrev pub IsPrintableKey : Key → Type 0
@@ -50,3 +50,7 @@ IsPrintableAd (a ∷ ad) = IsPrintableName a.0 × IsPrintableTree a.1 × IsPrint
 abbrev pub IsPrintableQueue : KeyedAds → Type 0
 IsPrintableQueue [] = Unit {0}
 IsPrintableQueue (e ∷ q) = IsPrintableKey e.0 × IsPrintableAd e.1 × IsPrintableQueue q
+
+-- each key of a queue can be printed
+abbrev pub HasPrintableKeys : KeyedAds → Type 0
+HasPrintableKeys q = (key : Key) → IfSome (ad_at key q) (λ ad. IsPrintableKey key)

@@ -1,10 +1,9 @@
 -- The queue as contracts see it, and what transactions make of it.
-use Rattle.std.specs.Prelude.{◌≡◌, ℕ, ◌+◌, Bool, List, [], ◌∷◌, find, Option, Some, None, Result, Ok, Err, if◌then◌else◌}
+use Rattle.std.specs.Prelude.{◌≡◌, ℕ, ◌+◌, List, [], ◌∷◌, find, Option, Some, None, Result, Ok, Err, if◌then◌else◌}
 use Rattle.std.specs.BTreeMap.{insert_entry}
 use Rattle.std.specs.List.Sorted.{IsStrictlySortedBy}
 use Rattle.std.specs.Map.{lookup, remove_entry, keys_of}
 use Rattle.std.specs.Coded.{Coded, coded_list, coded×, coded_option}
-use Rattle.ad_tree.specs.Tree.{Tree}
 use Rattle.ad_tree.specs.TreeCode.{attributes_code}
 use Rattle.ad_tree.specs.Ad.{Attributes, with_attribute, without}
 use Rattle.queue_tx.specs.declared.error.ApplyError.{ApplyError}

@@ -4,6 +4,7 @@ ghost use Rattle.queue_tx.specs.Jobs.{kind_under};
 ghost use Rattle.queue_tx.specs.declared.kind.JobKind.{JobKind};
 ghost use Rattle.queue_tx.specs.Kept.{is_kind, of_kind, SetsKey};
 ghost use Rattle.queue_tx.specs.Periodic.{IsReadyPeriodic};
+ghost use Rattle.queue_tx.specs.Roomy.{HasRoom};
 
 use crate::asked::{Asked, new_place, place_of};
 use crate::key::Key;
@@ -132,6 +133,7 @@ impl Model for ReadyAd {
     ghost use Rattle.queue_tx.specs.Asked.{IsReady};
     ghost use Rattle.queue_tx.specs.OperationCode.{key_code};
     ghost use Rattle.queue_tx.specs.Periodic.{IsReadyPeriodic};
+    ghost use Rattle.queue_tx.specs.Roomy.{HasRoom};
     ghost use Rattle.queue_tx.specs.declared.key.Key.{Key};
 
     ghost Value = { Key × Attributes };
@@ -140,11 +142,14 @@ impl Model for ReadyAd {
 
     ghost view = { λ r. r.ad };
 
-    ghost invariant = { λ r. IsReady r.ad r.job.0 r.asked × IsReadyPeriodic r.ad r.periodic };
+    ghost invariant = { λ r. IsReady r.ad r.job.0 r.asked
+        × IsReadyPeriodic r.ad r.periodic
+        × HasRoom r.ad.0 r.ad.1 };
 }
 
 impl ReadyAd {
     pub(crate) fn new(alloc: Global, key: Key, ad: Ad) -> Result<ReadyAd, Memory>
+        requires { HasRoom key ad }
         ensures { IfOk result (λ r. r ≡ (key, ad)) }
     {
         let asked = new_place(alloc, place_of(&key, &ad))?;
@@ -177,6 +182,7 @@ impl ReadyAd {
         ensures ad { result.ad ≡ self }
         ensures ready { IsReady result.ad result.job.0 result.asked }
         ensures periodic { IsReadyPeriodic result.ad result.periodic }
+        ensures room { HasRoom result.ad.0 result.ad.1 }
     {
         let ReadyAd {
             ad,

@@ -1,4 +1,4 @@
-ghost use Rattle.std.specs.Prelude.{◌≡◌, ◌≢◌, Ok, Err, IfOk, IfErr, OnOk, Some, map};
+ghost use Rattle.std.specs.Prelude.{◌≡◌, ◌≢◌, Ok, Err, IfOk, IfErr, IfSome, OnOk, Some, map};
 ghost use Rattle.std.specs.Option.{option_copied};
 ghost use Rattle.std.specs.List.Sorted.{IsStrictlySortedBy};
 ghost use Rattle.std.specs.Map.{keys_of, remove_entry};
@@ -8,6 +8,7 @@ ghost use Rattle.queue_tx.specs.Keys.{key_cmp, same_key};
 ghost use Rattle.queue_tx.specs.Operations.{operation, set_attr};
 ghost use Rattle.queue_tx.specs.Queues.{ad_after, ad_at, after_op, after_ops, with_changes, IsQueue};
 ghost use Rattle.queue_tx.specs.Prepared.{change_of, kept_at, undo_of};
+ghost use Rattle.queue_tx.specs.Roomy.{HasRoom, LeaveRoom};
 
 use crate::error::ApplyError;
 use crate::kept::ReadyAd;
@@ -56,6 +57,7 @@ impl Model for Prepared {
 impl Prepared {
     // The changes, with memory for each.
     pub(crate) fn of(alloc: Global, mut ads: BTreeMap<Key, Option<Ad>>) -> Result<Prepared, Memory>
+        requires { LeaveRoom ads.entries }
         ensures { IfOk result (λ p. p ≡ ads.entries) }
     {
         let mut changes = Vec::new(alloc);
@@ -89,6 +91,7 @@ impl Prepared {
 impl Change {
     // That ad, or none, under a key.
     fn of(alloc: Global, key: Key, ad: Option<Ad>) -> Result<Change, Memory>
+        requires { IfSome ad (HasRoom key) }
         ensures { IfOk result (λ c. change_of c ≡ (key, ad)) }
     {
         match ad {
@@ -111,6 +114,7 @@ impl Change {
         ensures { IfOk result (λ undo. change_of undo ≡ kept_at queue.now (change_of self.now)) }
     {
         let key = self.key();
+        queue.room();
         let ad = copy_of(alloc, queue.get(&key))?;
         Change::of(alloc, key, ad)
     }
@@ -124,6 +128,7 @@ pub(crate) fn changes_of(
 ) -> Result<BTreeMap<Key, Option<Ad>>, ApplyError>
     ensures done { IfOk result (λ changes. after_ops 0 queue.now (map operation ops.now)
         ≡ Ok (with_changes queue.now changes.entries)) }
+    ensures room { IfOk result (λ changes. LeaveRoom changes.entries) }
     ensures refused { IfErr result
         (λ e. e ≢ error.Memory → after_ops 0 queue.now (map operation ops.now) ≡ Err e) }
 {
@@ -143,12 +148,14 @@ fn do_op(
     op: &Op,
 ) -> Result<(), ApplyError>
     requires ordered { IsStrictlySortedBy key_cmp (keys_of changes.old.entries) }
+    requires room { LeaveRoom changes.old.entries }
     ensures done { OnOk result
         (after_op place (with_changes queue.now changes.old.entries) (operation op.now)
         ≡ Ok (with_changes queue.now changes.new.entries)) }
     ensures refused { IfErr result (λ e. e ≢ error.Memory
         → after_op place (with_changes queue.now changes.old.entries) (operation op.now) ≡ Err e) }
     ensures ordered { OnOk result (IsStrictlySortedBy key_cmp (keys_of changes.new.entries)) }
+    ensures room { OnOk result (LeaveRoom changes.new.entries) }
 {
     let key = op.key();
     let ad = take_ad(queue, changes, alloc, &key)?;
@@ -165,11 +172,14 @@ fn take_ad(
     key: &Key,
 ) -> Result<Option<Ad>, Memory>
     requires ordered { IsStrictlySortedBy key_cmp (keys_of changes.old.entries) }
+    requires room { LeaveRoom changes.old.entries }
     ensures ad { IfOk result
         (λ ad. ad ≡ ad_at key.now (with_changes queue.now changes.old.entries)) }
+    ensures room { IfOk result (λ ad. IfSome ad (HasRoom key.now)) }
     ensures rest { changes.new.entries ≡ remove_entry (same_key key.now) changes.old.entries }
     ensures queue { IsQueue queue.now }
 {
+    queue.room();
     let stands = queue.get(key);
     match changes.remove(key) {
         Some(ad) => Ok(ad),

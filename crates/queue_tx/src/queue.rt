@@ -10,6 +10,7 @@ ghost use Rattle.queue_tx.specs.Jobs.{FirstKey, IsJobOf};
 ghost use Rattle.queue_tx.specs.Periodic.{IsPeriodic};
 ghost use Rattle.queue_tx.specs.Prepared.{change_of};
 ghost use Rattle.queue_tx.specs.Requests.{IsIdleAsking, SameRequest};
+ghost use Rattle.queue_tx.specs.Roomy.{IsRoomy};
 
 use crate::asked::{AskedSet, asked_under, first_asked, replace};
 use crate::error::ApplyError;
@@ -60,11 +61,13 @@ impl Model for Queue {
     ghost use Rattle.queue_tx.specs.Kept.{AreKinds};
     ghost use Rattle.queue_tx.specs.Asked.{ArePlaces, DoIdleNamesDiffer};
     ghost use Rattle.queue_tx.specs.Periodic.{ArePeriodic};
+    ghost use Rattle.queue_tx.specs.Roomy.{IsRoomy};
 
     ghost invariant = { λ q. AreKinds q.kinds q.ads
         × ArePlaces q.asked q.ads
         × DoIdleNamesDiffer q.ads
-        × ArePeriodic q.periodic q.ads };
+        × ArePeriodic q.periodic q.ads
+        × IsRoomy q.ads };
 }
 
 impl Queue {
@@ -86,6 +89,15 @@ impl Queue {
         ensures ordered { IsQueue self.now }
     {
         self.ads.get(key)
+    }
+
+    /// Makes known that the keys stand in order, and that each ad has room for what the pool sets in
+    /// it. Computes in O(log ads), without memory.
+    pub fn room(&self)
+        ensures ordered { IsQueue self.now }
+        ensures room { IsRoomy self.now }
+    {
+        let _ = self.ads.get(&Key::Header);
     }
 
     /// The least key above the given one, or the least of all, without memory. Computes in

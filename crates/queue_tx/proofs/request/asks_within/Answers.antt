@@ -1,4 +1,4 @@
-use Rattle.std.proofs.Common.{◌≡◌, ◌<◌, slice_get, arith, sym, ◌∙◌, refl, true≢false}
+use Rattle.std.proofs.Common.{slice_get, arith, sym, ◌∙◌, refl, true≢false}
 use Rattle.ad_tree.proofs.AdLemmas.{below_more}
 use Rattle.queue_tx.specs.Requests.{AgreesAt}
 use Rattle.queue_tx.proofs.RequestLemmas.{within_from_places, places_from_within}

@@ -1,5 +1,3 @@
-use Rattle.queue_tx.specs.Kept.{of_kind, SetsKey}
-use Rattle.std.proofs.Common.{false}
 use Rattle.queue_tx.proofs.KeptJobs.{by_kinds}
 use Rattle.queue_tx.proofs.kept.Kinds.remove.Goals as goal
 

@@ -3,7 +3,7 @@ use Rattle.std.specs.Option.{option_copied}
 use Rattle.queue_tx.specs.declared.key.Key.{Key}
 use Rattle.queue_tx.specs.Jobs.{FirstKey}
 use Rattle.queue_tx.specs.Requests.{IsIdleAsking}
-use Rattle.queue_tx.proofs.Asking.{fewer, asked_is_there, reached_first, reached_next, none_asks, none_left, asks}
+use Rattle.queue_tx.proofs.Asking.{fewer, asked_is_there, reached_first, reached_next, none_asks, none_left}
 use Rattle.queue_tx.proofs.AskedJobs.{asking_is_asked}
 use Rattle.queue_tx.proofs.queue.Queue.first_asking.Goals as goal
 

@@ -10,9 +10,11 @@ use Rattle.queue_tx.specs.Keys.{key_cmp}
 use Rattle.queue_tx.specs.Jobs.{kind_under}
 use Rattle.queue_tx.specs.Periodic.{KeepsKey}
 use Rattle.queue_tx.specs.Queues.{ad_at}
+use Rattle.queue_tx.specs.Roomy.{IsRoomy}
 use Rattle.queue_tx.proofs.AskedJobs.{places_with, names_with}
 use Rattle.queue_tx.proofs.KeptJobs.{kinds_with, kinds_without}
 use Rattle.queue_tx.proofs.PeriodicJobs.{periodic_with, periodic_without}
+use Rattle.queue_tx.proofs.RoomKept.{room_with}
 use Rattle.queue_tx.proofs.queue.Queue.put.Goals as goal
 
 pub invariant_of-self : goal.invariant_of-self
@@ -37,6 +39,7 @@ invariant_of-self c =
       names_with ads c.put.new.self e.0 (Some e.1) c.put.ensures.sorted c.put.ensures.entries c.self.invariant.2 ready.2,
       periodic_with ads c.put.new.self e c.put.ensures.sorted c.put.ensures.entries c.self.inside.periodic c.keep.new.keys c.self.invariant.3 c.into_entries-ad.result.periodic c.into_entries-ad.ensures.periodic
           (subst (λ (k : Key). KeepsKey k c.into_entries-ad.result.periodic c.self.inside.periodic c.keep.new.keys) c.key.ensures c.keep.ensures),
+      subst IsRoomy (sym c.put.ensures.entries) (room_with e.0 (Some e.1) ads c.put.ensures.sorted c.into_entries-ad.ensures.room c.self.invariant.4),
     )
 
 pub invariant_of-self-in-Remove : goal.invariant_of-self-in-Remove
@@ -48,4 +51,5 @@ invariant_of-self-in-Remove c =
           (c.asked_under-old-in-Remove.ensures ∙ ap (asked_under key) c.get-in-Remove.ensures.value) refl c.replace-in-Remove.ensures,
       names_with ads c.remove.new.self key None c.remove.ensures.sorted c.remove.ensures.entries c.self.invariant.2 tt,
       periodic_without ads c.remove.new.self key c.remove.ensures.sorted c.remove.ensures.entries c.self.inside.periodic c.clear.new.keys c.self.invariant.3 c.clear.ensures,
+      subst IsRoomy (sym c.remove.ensures.entries) (room_with key None ads c.remove.ensures.sorted tt c.self.invariant.4),
     )
