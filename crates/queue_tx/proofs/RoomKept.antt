@@ -181,7 +181,7 @@ pub op_leaves_room : (place : ℕ) (key : Key) (o : Operation) (cs left new : Ch
 op_leaves_room place key o cs left new a made named r h rest done is =
     let has = ad_has_room place o a made (subst (λ k. IfSome a (HasRoom k)) named r) done in
     subst LeaveRoom (sym is)
-        (room_inserted key made left (subst (λ k. IfSome made (HasRoom k)) (sym named) has) (subst LeaveRoom (sym rest) (room_removed key cs h)))
+    (room_inserted key made left (subst (λ k. IfSome made (HasRoom k)) (sym named) has) (subst LeaveRoom (sym rest) (room_removed key cs h)))
 
 -- ---- of a queue
 pub room_with : (key : Key) (a : Option Attributes) (q : KeyedAds) → IsQueue q → IfSome a (HasRoom key) → IsRoomy q → IsRoomy (with_ad key a q)
