@@ -91,8 +91,8 @@ impl Queue {
         self.ads.get(key)
     }
 
-    /// Makes known that the keys stand in order, and that each ad has room for what the pool sets in
-    /// it. Computes in O(log ads), without memory.
+    /// Makes known that the keys stand in order, and that each ad has room for what the pool sets
+    /// there. Computes in O(log ads), without memory.
     pub fn room(&self)
         ensures ordered { IsQueue self.now }
         ensures room { IsRoomy self.now }
