@@ -33,7 +33,7 @@ use Rattle.pool_safety.specs.Histories.{Accepts, HasView, LaunchesRun, MovesView
 use Rattle.pool_safety.specs.Kept.{GoesOn, IsPendingTx, IsTxOf}
 use Rattle.pool_safety.specs.Parts.{parts_of}
 use Rattle.pool_safety.specs.Steps.{IsStepOf}
-use Rattle.pool_safety.specs.Unfinished.{ArePlansShort, IsShort}
+use Rattle.pool_safety.specs.Unfinished.{IsShort}
 use Rattle.pool_refusals.specs.Refusals.{IsRefusal}
 use Rattle.pool_state.specs.Openings.{CanOpen, IsOpenedBy}
 use Rattle.pool_state.specs.PoolViews.{IsViewOf}
@@ -42,7 +42,7 @@ use Rattle.pool_state.specs.declared.state.PoolState.{PoolState}
 use Rattle.pool_tables.specs.declared.refusal.StepError.{StepError}
 use Rattle.queue_tx.specs.Operations.{Operation}
 use Rattle.queue_tx.specs.Printable.{HasPrintableKeys}
-use Rattle.queue_tx.specs.Queues.{KeyedAds, IsQueue, ad_at}
+use Rattle.queue_tx.specs.Queues.{KeyedAds, IsQueue}
 use Rattle.queue_tx.specs.Roomy.{HasRoom, IsRoomy}
 use Rattle.pool_view.specs.AbstractPool.{AbstractPool}
 use Rattle.pool_view.specs.Safe.{Safe}

@@ -5,5 +5,5 @@ use Rattle.pool_core.proofs.pool.Pool.open.Goals as goal
 pub invariant_of-result : goal.invariant_of-result
 invariant_of-result c = opened_kept c.args.opening _ c.requires.can c.requires.keys c.room.ensures.ordered c.room.ensures.room (opened_rest c.in_ok-state.ensures)
 
-pub returns-in_ok-clause-ordered : goal.returns-in_ok-clause-ordered
-returns-in_ok-clause-ordered c = names_differ c.args.opening.queue c.room.ensures.ordered c.room.ensures.room
+pub returns-clause-ordered : goal.returns-clause-ordered
+returns-clause-ordered c = names_differ c.args.opening.queue c.room.ensures.ordered c.room.ensures.room
