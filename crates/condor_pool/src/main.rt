@@ -1,7 +1,9 @@
 //! `condor_pool`: runs a pool on the system's files, clock and programs.
 #![tactic(auto)]
 
-ghost use Rattle.std.specs.Prelude.{◌≡◌, All, IfOk, length};
+ghost use Rattle.std.specs.Prelude.{◌≡◌, ◌⊎◌, ◌↔◌, All, IfOk, length};
+ghost use Rattle.pool_input.specs.declared.status.Status.{Status};
+ghost use Rattle.run_words.specs.Words.{IsNoRun, texts};
 
 use pool_master::{MACHINES, Ran, Status, run_pool};
 use pool_outer::{ChildSpawner, OpenGate, Spawner, StdSink, SystemClock};
@@ -30,7 +32,9 @@ fn main(rt: HostRuntime) -> ExitCode {
 }
 
 // Prints what a lone word asks for.
-fn answer(rt: &impl Print, alloc: Global, question: Question) -> Status {
+fn answer(rt: &impl Print, alloc: Global, question: Question) -> Status
+    ensures { (result ≡ Status.Done) ⊎ ((result ≡ Status.OutFault) ⊎ (result ≡ Status.Memory)) }
+{
     match text_of(alloc, question) {
         Ok(text) => match print!(rt; "{text}") {
             Ok(()) => Status::Done,
@@ -41,23 +45,45 @@ fn answer(rt: &impl Print, alloc: Global, question: Question) -> Status {
 }
 
 // How a program ends whose words can't be had: a word that isn't UTF-8 is of no form.
-fn unread_words(error: &io::Error) -> Status {
+fn unread_words(error: &io::Error) -> Status
+    ensures { (result ≡ Status.Usage) ⊎ (result ≡ Status.Memory) }
+{
     match error.kind() {
         io::ErrorKind::OutOfMemory => Status::Memory,
         _ => Status::Usage,
     }
 }
 
-// Runs a pool on the system's parts. The first handle may wait.
+// Runs a pool on the parts of the system. The first handle may wait. That the words are of no form
+// is said, unless memory runs out before.
 fn run<R: Threads + Wait + Sync + Clock>(
     rt: &R,
     system: &HostRuntime,
     alloc: Global,
     words: &[String],
-) -> Status {
-    let Ok(spawners) = idle_spawners(alloc, system) else {
-        return Status::Memory;
-    };
+) -> Status
+    ensures usage { result ≡ Status.Usage → IsNoRun (texts words.now) }
+    ensures no_run { IsNoRun (texts words.now)
+        → (result ≡ Status.Usage) ⊎ (result ≡ Status.Memory) }
+{
+    match idle_spawners(alloc, system) {
+        Ok(idle) => run_on(rt, system, alloc, words, idle),
+        Err(AllocError) => Status::Memory,
+    }
+}
+
+// With a spawner for each machine.
+fn run_on<R: Threads + Wait + Sync + Clock, P: Spawner + Send>(
+    rt: &R,
+    system: &HostRuntime,
+    alloc: Global,
+    words: &[String],
+    spawners: Vec<P>,
+) -> Status
+    requires machines { length spawners.items ≡ MACHINES }
+    requires idle { All (λ s. P.count s ≡ 0) spawners.items }
+    ensures { result ≡ Status.Usage ↔ IsNoRun (texts words.now) }
+{
     let clock = SystemClock::new(system);
     let mut out = StdSink::new(io::writer(system));
     let Ran {

@@ -1,6 +1,6 @@
+use crate::schedds::ScheddScript;
 use crate::startds::{add_slot, answer_startd, new_startd};
 use cases::{Case, CaseError};
-use schedd_script::ScheddScript;
 use startd_core::Startd;
 use std::alloc::Global;
 

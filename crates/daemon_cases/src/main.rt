@@ -10,7 +10,11 @@
 mod answers;
 mod daemon;
 mod judging;
+mod log;
 mod pairs;
+mod schedd_answers;
+mod schedds;
+mod settings;
 mod startds;
 mod texts;
 mod views;

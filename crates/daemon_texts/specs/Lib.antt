@@ -1,0 +1,4 @@
+pub mod EndTexts
+pub mod Faults
+pub mod NumberTexts
+pub mod PairNames

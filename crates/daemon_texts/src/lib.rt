@@ -3,6 +3,7 @@
 
 mod ad;
 mod answer;
+mod cut;
 mod error;
 mod field;
 mod ids;

@@ -1,4 +1,5 @@
 use crate::ad::{read_ad, write_ad};
+use crate::cut::cut;
 use crate::error::TextError;
 use crate::ids::{
     read_claim, read_claim_no, read_job, read_number, read_run, read_signed, write_claim,
@@ -8,7 +9,7 @@ use crate::pair::{pair_of, write_pair};
 use crate::why::{read_how, read_why, write_how, write_why};
 use ad_tree::Ad;
 use ad_value::Text;
-use claim_id::{ClaimId, JobId, RunNo, SlotId};
+use claim_id::{ClaimId, ClaimNo, JobId, RunNo, SlotId};
 use pool_mail::{Mail, Match, SlotAd};
 use slot_state::Pair;
 use std::alloc::{AllocError, Global};
@@ -54,7 +55,7 @@ impl<'a> Words<'a> {
 
     // The value of the next field, which has this name.
     fn value(&mut self, name: &str) -> Result<&'a str, TextError> {
-        match self.word()?.split_once('=') {
+        match cut(self.word()?, '=') {
             Some((named, value)) if named == name => Ok(value),
             _ => Err(TextError::Form),
         }
@@ -74,6 +75,30 @@ impl<'a> Words<'a> {
 
     fn job(&mut self) -> Result<JobId, TextError> {
         read_job(self.value("job")?)
+    }
+
+    fn claim(&mut self) -> Result<ClaimId, TextError> {
+        read_claim(self.value("claim")?)
+    }
+
+    fn some_claim(&mut self) -> Result<Option<ClaimId>, TextError> {
+        read_some_claim(self.value("claim")?)
+    }
+
+    fn claim_no(&mut self, alloc: Global) -> Result<ClaimNo, TextError> {
+        read_claim_no(alloc, self.value("claim")?)
+    }
+
+    fn slot(&mut self) -> Result<SlotId, TextError> {
+        read_slot_id(self.value("slot")?)
+    }
+
+    fn pair(&mut self) -> Result<Pair, TextError> {
+        read_pair(self.value("pair")?)
+    }
+
+    fn rank(&mut self) -> Result<i64, TextError> {
+        read_signed(self.value("rank")?)
     }
 
     fn run(&mut self, alloc: Global) -> Result<RunNo, TextError> {
@@ -107,88 +132,152 @@ pub fn read_mail(alloc: Global, text: &str) -> Result<Mail, TextError> {
 
 fn read_named(alloc: Global, words: &mut Words<'_>) -> Result<Mail, TextError> {
     match words.word()? {
-        "Update" => Ok(Mail::Update(read_slot(alloc, words)?)),
-        "Matched" => Ok(Mail::Matched(read_match(words)?)),
-        "Ask" => Ok(Mail::Ask {
-            claim: read_claim(words.value("claim")?)?,
-            job: words.job()?,
-            by_priority: words.truth("by_priority")?,
-            ad: words.ad(alloc)?,
-        }),
-        "Granted" => Ok(Mail::Granted {
-            claim: read_claim(words.value("claim")?)?,
-            job: words.job()?,
-        }),
-        "Denied" => Ok(Mail::Denied {
-            claim: read_claim_no(alloc, words.value("claim")?)?,
-            run: read_some_run(alloc, words.value("run")?)?,
-            job: words.job()?,
-            why: read_why(alloc, words.value("why")?)?,
-        }),
-        "Activate" => Ok(Mail::Activate {
-            run: words.run(alloc)?,
-            job: words.job()?,
-            until: words.number("until")?,
-            ad: words.ad(alloc)?,
-        }),
+        "Update" => read_update(alloc, words),
+        "Matched" => read_matched(words),
+        "Ask" => read_ask(alloc, words),
+        "Granted" => read_granted(words),
+        "Denied" => read_denied(alloc, words),
+        "Activate" => read_activate(alloc, words),
         name => read_short(alloc, name, words),
     }
 }
 
-fn read_short(alloc: Global, name: &str, words: &mut Words<'_>) -> Result<Mail, TextError> {
-    match name {
-        "Alive" => Ok(Mail::Alive {
-            run: words.run(alloc)?,
-            until: words.number("until")?,
-        }),
-        "Seen" => Ok(Mail::Seen {
-            run: words.run(alloc)?,
-            until: words.number("until")?,
-        }),
-        "Stop" => Ok(Mail::Stop {
-            run: words.run(alloc)?,
-        }),
-        "Release" => Ok(Mail::Release {
-            claim: read_claim_no(alloc, words.value("claim")?)?,
-        }),
-        "Gone" => Ok(Mail::Gone {
-            run: words.run(alloc)?,
-            kept: words.truth("kept")?,
-        }),
-        "Ended" => Ok(Mail::Ended {
-            run: words.run(alloc)?,
-            how: read_how(words.value("how")?)?,
-        }),
-        "Remove" => Ok(Mail::Remove { job: words.job()? }),
-        "Hold" => Ok(Mail::Hold { job: words.job()? }),
-        "Resume" => Ok(Mail::Resume { job: words.job()? }),
-        _ => Err(TextError::Form),
-    }
+fn read_update(alloc: Global, words: &mut Words<'_>) -> Result<Mail, TextError> {
+    Ok(Mail::Update(read_slot(alloc, words)?))
 }
 
-fn read_match(words: &mut Words<'_>) -> Result<Match, TextError> {
-    Ok(Match {
+fn read_matched(words: &mut Words<'_>) -> Result<Mail, TextError> {
+    Ok(Mail::Matched(Match {
         job: words.job()?,
-        claim: read_claim(words.value("claim")?)?,
+        claim: words.claim()?,
         by_priority: words.truth("by_priority")?,
-    })
+    }))
 }
 
-fn read_slot(alloc: Global, words: &mut Words<'_>) -> Result<SlotAd, TextError> {
-    Ok(SlotAd {
-        slot: read_slot_id(words.value("slot")?)?,
-        name: Text::from_str(alloc, words.value("name")?)?,
-        claim: read_some_claim(words.value("claim")?)?,
-        pair: read_pair(words.value("pair")?)?,
-        user: read_user(alloc, words.value("user")?)?,
-        rank: read_signed(words.value("rank")?)?,
-        at: words.number("at")?,
+fn read_ask(alloc: Global, words: &mut Words<'_>) -> Result<Mail, TextError> {
+    Ok(Mail::Ask {
+        claim: words.claim()?,
+        job: words.job()?,
+        by_priority: words.truth("by_priority")?,
         ad: words.ad(alloc)?,
     })
 }
 
+fn read_granted(words: &mut Words<'_>) -> Result<Mail, TextError> {
+    Ok(Mail::Granted {
+        claim: words.claim()?,
+        job: words.job()?,
+    })
+}
+
+fn read_denied(alloc: Global, words: &mut Words<'_>) -> Result<Mail, TextError> {
+    Ok(Mail::Denied {
+        claim: words.claim_no(alloc)?,
+        run: read_some_run(alloc, words.value("run")?)?,
+        job: words.job()?,
+        why: read_why(alloc, words.value("why")?)?,
+    })
+}
+
+fn read_activate(alloc: Global, words: &mut Words<'_>) -> Result<Mail, TextError> {
+    Ok(Mail::Activate {
+        run: words.run(alloc)?,
+        job: words.job()?,
+        until: words.number("until")?,
+        ad: words.ad(alloc)?,
+    })
+}
+
+fn read_short(alloc: Global, name: &str, words: &mut Words<'_>) -> Result<Mail, TextError> {
+    match name {
+        "Release" => Ok(Mail::Release {
+            claim: words.claim_no(alloc)?,
+        }),
+        "Remove" => Ok(Mail::Remove { job: words.job()? }),
+        "Hold" => Ok(Mail::Hold { job: words.job()? }),
+        "Resume" => Ok(Mail::Resume { job: words.job()? }),
+        _ => read_of_run(name, words.run(alloc)?, words),
+    }
+}
+
+// A mail whose first field is its run.
+fn read_of_run(name: &str, run: RunNo, words: &mut Words<'_>) -> Result<Mail, TextError> {
+    match name {
+        "Alive" => Ok(Mail::Alive {
+            run,
+            until: words.number("until")?,
+        }),
+        "Seen" => Ok(Mail::Seen {
+            run,
+            until: words.number("until")?,
+        }),
+        "Stop" => Ok(Mail::Stop { run }),
+        "Gone" => Ok(Mail::Gone {
+            run,
+            kept: words.truth("kept")?,
+        }),
+        "Ended" => Ok(Mail::Ended {
+            run,
+            how: read_how(words.value("how")?)?,
+        }),
+        _ => Err(TextError::Form),
+    }
+}
+
+// What an Update says first.
+#[derive(Clone, Copy)]
+struct SlotHead<'a> {
+    slot: SlotId,
+    name: &'a str,
+    claim: Option<ClaimId>,
+    pair: Pair,
+}
+
+// What it says then, but for the ad.
+#[derive(Clone, Copy)]
+struct SlotTail<'a> {
+    user: &'a str,
+    rank: i64,
+    at: u64,
+}
+
+fn read_slot(alloc: Global, words: &mut Words<'_>) -> Result<SlotAd, TextError> {
+    let head = read_slot_head(words)?;
+    let tail = read_slot_tail(words)?;
+    let name = Text::from_str(alloc, head.name)?;
+    let user = read_user(alloc, tail.user)?;
+    let ad = words.ad(alloc)?;
+    Ok(SlotAd {
+        slot: head.slot,
+        name,
+        claim: head.claim,
+        pair: head.pair,
+        user,
+        rank: tail.rank,
+        at: tail.at,
+        ad,
+    })
+}
+
+fn read_slot_head<'a>(words: &mut Words<'a>) -> Result<SlotHead<'a>, TextError> {
+    Ok(SlotHead {
+        slot: words.slot()?,
+        name: words.value("name")?,
+        claim: words.some_claim()?,
+        pair: words.pair()?,
+    })
+}
+
+fn read_slot_tail<'a>(words: &mut Words<'a>) -> Result<SlotTail<'a>, TextError> {
+    Ok(SlotTail {
+        user: words.value("user")?,
+        rank: words.rank()?,
+        at: words.number("at")?,
+    })
+}
+
 fn read_slot_id(text: &str) -> Result<SlotId, TextError> {
-    let Some((machine, slot)) = text.split_once(':') else {
+    let Some((machine, slot)) = cut(text, ':') else {
         return Err(TextError::Form);
     };
     let (Ok(machine), Ok(slot)) = (machine.parse::<u16>(), slot.parse::<u16>()) else {
@@ -229,46 +318,24 @@ fn read_user(alloc: Global, text: &str) -> Result<Option<Text>, TextError> {
 pub fn write_mail(alloc: Global, mail: &Mail, out: &mut String) -> Result<(), AllocError> {
     match mail {
         Mail::Update(slot) => write_slot(alloc, slot, out),
-        Mail::Matched(found) => {
-            out.push_str("Matched job=")?;
-            write_job(found.job, out)?;
-            out.push_str(" claim=")?;
-            write_claim(found.claim, out)?;
-            let by_priority = found.by_priority;
-            write!(out, " by_priority={by_priority}")
-        }
+        Mail::Matched(found) => write_matched(found, out),
         Mail::Ask {
             claim,
             job,
             ad,
             by_priority,
         } => {
-            out.push_str("Ask claim=")?;
-            write_claim(*claim, out)?;
-            out.push_str(" job=")?;
-            write_job(*job, out)?;
-            write!(out, " by_priority={by_priority} ad=")?;
+            write_ask(*claim, *job, *by_priority, out)?;
             write_ad(alloc, ad, out)
         }
-        Mail::Granted { claim, job } => {
-            out.push_str("Granted claim=")?;
-            write_claim(*claim, out)?;
-            out.push_str(" job=")?;
-            write_job(*job, out)
-        }
+        Mail::Granted { claim, job } => write_granted(*claim, *job, out),
         Mail::Denied {
             claim,
             run,
             job,
             why,
         } => {
-            out.push_str("Denied claim=")?;
-            write_claim_no(*claim, out)?;
-            out.push_str(" run=")?;
-            write_some_run(*run, out)?;
-            out.push_str(" job=")?;
-            write_job(*job, out)?;
-            out.push_str(" why=")?;
+            write_denied(*claim, *run, *job, out)?;
             write_why(*why, out)
         }
         Mail::Activate {
@@ -277,15 +344,61 @@ pub fn write_mail(alloc: Global, mail: &Mail, out: &mut String) -> Result<(), Al
             ad,
             until,
         } => {
-            out.push_str("Activate run=")?;
-            write_run(*run, out)?;
-            out.push_str(" job=")?;
-            write_job(*job, out)?;
-            write!(out, " until={until} ad=")?;
+            write_activate(*run, *job, *until, out)?;
             write_ad(alloc, ad, out)
         }
         _ => write_short(mail, out),
     }
+}
+
+fn write_matched(found: &Match, out: &mut String) -> Result<(), AllocError> {
+    write_order("Matched", found.job, out)?;
+    out.push_str(" claim=")?;
+    write_claim(found.claim, out)?;
+    let by_priority = found.by_priority;
+    write!(out, " by_priority={by_priority}")
+}
+
+// All of an Ask but its ad.
+fn write_ask(
+    claim: ClaimId,
+    job: JobId,
+    by_priority: bool,
+    out: &mut String,
+) -> Result<(), AllocError> {
+    out.push_str("Ask claim=")?;
+    write_claim(claim, out)?;
+    write_order("", job, out)?;
+    write!(out, " by_priority={by_priority} ad=")
+}
+
+fn write_granted(claim: ClaimId, job: JobId, out: &mut String) -> Result<(), AllocError> {
+    out.push_str("Granted claim=")?;
+    write_claim(claim, out)?;
+    write_order("", job, out)
+}
+
+// All of a Denied but its cause.
+fn write_denied(
+    claim: ClaimNo,
+    run: Option<RunNo>,
+    job: JobId,
+    out: &mut String,
+) -> Result<(), AllocError> {
+    out.push_str("Denied claim=")?;
+    write_claim_no(claim, out)?;
+    out.push_str(" run=")?;
+    write_some_run(run, out)?;
+    write_order("", job, out)?;
+    out.push_str(" why=")
+}
+
+// All of an Activate but its ad.
+fn write_activate(run: RunNo, job: JobId, until: u64, out: &mut String) -> Result<(), AllocError> {
+    out.push_str("Activate run=")?;
+    write_run(run, out)?;
+    write_order("", job, out)?;
+    write!(out, " until={until} ad=")
 }
 
 /// Appends an answer's `ok`, and each mail behind a tab. Computes in O(bytes).
@@ -347,24 +460,41 @@ fn write_some_run(run: Option<RunNo>, out: &mut String) -> Result<(), AllocError
     }
 }
 
-fn write_slot(alloc: Global, slot: &SlotAd, out: &mut String) -> Result<(), AllocError> {
-    let SlotId {
-        machine,
-        slot: number,
-    } = slot.slot;
-    let name = slot.name.as_str();
-    write!(out, "Update slot={machine}:{number} name={name} claim=")?;
-    match slot.claim {
-        Some(claim) => write_claim(claim, out)?,
-        None => out.push('-')?,
+fn write_some_claim(claim: Option<ClaimId>, out: &mut String) -> Result<(), AllocError> {
+    match claim {
+        Some(claim) => write_claim(claim, out),
+        None => out.push('-'),
     }
+}
+
+fn write_slot(alloc: Global, slot: &SlotAd, out: &mut String) -> Result<(), AllocError> {
+    write_slot_id(slot.slot, out)?;
+    write_value("name", slot.name.as_str(), out)?;
+    out.push_str(" claim=")?;
+    write_some_claim(slot.claim, out)?;
     out.push_str(" pair=")?;
     write_pair(slot.pair, out)?;
-    let user = match &slot.user {
+    write_value("user", user_text(&slot.user), out)?;
+    write_rank(slot.rank, slot.at, out)?;
+    write_ad(alloc, &slot.ad, out)
+}
+
+fn write_slot_id(slot: SlotId, out: &mut String) -> Result<(), AllocError> {
+    let SlotId { machine, slot } = slot;
+    write!(out, "Update slot={machine}:{slot}")
+}
+
+fn write_value(name: &str, value: &str, out: &mut String) -> Result<(), AllocError> {
+    write!(out, " {name}={value}")
+}
+
+fn user_text(user: &Option<Text>) -> &str {
+    match user {
         Some(user) => user.as_str(),
         None => "-",
-    };
-    let (rank, at) = (slot.rank, slot.at);
-    write!(out, " user={user} rank={rank} at={at} ad=")?;
-    write_ad(alloc, &slot.ad, out)
+    }
+}
+
+fn write_rank(rank: i64, at: u64, out: &mut String) -> Result<(), AllocError> {
+    write!(out, " rank={rank} at={at} ad=")
 }

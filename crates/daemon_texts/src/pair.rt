@@ -1,8 +1,16 @@
+ghost use Rattle.std.specs.Prelude.{◌≡◌, ◌≢◌, ◌++◌, MatchOption, OnOk, string_bytes};
+ghost use Rattle.daemon_texts.specs.PairNames.{pair_name, cue_name};
+ghost use Rattle.slot_state.specs.declared.pair.Cue.{Cue};
+ghost use Rattle.slot_state.specs.declared.pair.Pair.{Pair};
+
 use slot_state::{Cue, Pair};
 use std::alloc::AllocError;
 
 /// The state and activity of a name, as `Claimed/Busy`. Computes in O(1).
-pub fn pair_of(name: &str) -> Option<Pair> {
+pub fn pair_of(name: &str) -> Option<Pair>
+    ensures { MatchOption result ((pair : Pair) → name.now ≢ pair_name pair)
+        (λ pair. name.now ≡ pair_name pair) }
+{
     match name {
         "Owner/Idle" => Some(Pair::OwnerIdle),
         "Unclaimed/Idle" => Some(Pair::UnclaimedIdle),
@@ -17,8 +25,16 @@ pub fn pair_of(name: &str) -> Option<Pair> {
 }
 
 /// Appends a state and activity. Computes in O(1).
-pub fn write_pair(pair: Pair, out: &mut String) -> Result<(), AllocError> {
-    out.push_str(match pair {
+pub fn write_pair(pair: Pair, out: &mut String) -> Result<(), AllocError>
+    ensures { OnOk result (string_bytes out.new ≡ string_bytes out.old ++ pair_name pair) }
+{
+    out.push_str(name_of(pair))
+}
+
+fn name_of(pair: Pair) -> &'static str
+    ensures { result.now ≡ pair_name pair }
+{
+    match pair {
         Pair::OwnerIdle => "Owner/Idle",
         Pair::UnclaimedIdle => "Unclaimed/Idle",
         Pair::MatchedIdle => "Matched/Idle",
@@ -27,11 +43,14 @@ pub fn write_pair(pair: Pair, out: &mut String) -> Result<(), AllocError> {
         Pair::ClaimedRetiring => "Claimed/Retiring",
         Pair::PreemptingVacating => "Preempting/Vacating",
         Pair::PreemptingKilling => "Preempting/Killing",
-    })
+    }
 }
 
 /// The cue of a name. Computes in O(1).
-pub fn cue_of(name: &str) -> Option<Cue> {
+pub fn cue_of(name: &str) -> Option<Cue>
+    ensures { MatchOption result ((cue : Cue) → name.now ≢ cue_name cue)
+        (λ cue. name.now ≡ cue_name cue) }
+{
     match name {
         "StartOn" => Some(Cue::StartOn),
         "StartOff" => Some(Cue::StartOff),

@@ -1,1 +1,14 @@
+pub mod Answered
+pub mod GivenByMarks
+pub mod LogCourse
+pub mod MachineCourse
 pub mod OneMore
+pub mod PassCourse
+pub mod Passes
+pub mod ReactionCourse
+pub mod Readers
+pub mod Refused
+pub mod Rolls
+pub mod ScheddCourse
+pub mod SlotCourse
+pub mod StartdCourse

@@ -5,9 +5,9 @@ use Rattle.desk.specs.declared.entry.Entry.{Entry}
 use Rattle.desk.specs.Entries.{Gained, entry_of}
 use Rattle.desk.specs.Launches.{is_launch_of, was_launched}
 use Rattle.desk.specs.Logs.{LogSoFar, log_after, log_after_all, log_of}
-use Rattle.pool_event.specs.declared.answer.Answer.{Answer}
-use Rattle.pool_event.specs.declared.event.Event.{Event}
-use Rattle.pool_event.specs.Answers.{kept_of}
+use Rattle.pool_parts.specs.declared.answer.Answer.{Answer}
+use Rattle.pool_parts.specs.declared.event.Event.{Event}
+use Rattle.pool_parts.specs.Answers.{kept_of}
 
 pub log_all_on : (log : LogSoFar) (es : List Entry) (e : Entry) → log_after_all log (es ++ e ∷ []) ≡ log_after (log_after_all log es) e
 log_all_on log [] e = refl

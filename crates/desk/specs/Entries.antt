@@ -3,12 +3,12 @@ use Rattle.std.specs.Prelude.{◌≡◌, ℕ, List, [], ◌∷◌, ◌++◌, Opt
 use Rattle.desk.specs.declared.entry.Entry.{Entry}
 use Rattle.desk.specs.declared.entry.Sort.{Sort}
 use Rattle.desk.specs.declared.entry.Sort.TheVariants as sort
-use Rattle.pool_event.specs.declared.answer.Answer.{Answer}
-use Rattle.pool_event.specs.declared.answer.Kept.{Kept}
-use Rattle.pool_event.specs.declared.event.Event.{Event}
-use Rattle.pool_event.specs.declared.event.Event.TheVariants.{Submit, Order, Receive, Tick, Check, Logged, Ended, Crash, Reopen, Matches, Close}
-use Rattle.pool_event.specs.Answers.{kept_of}
-use Rattle.pool_event.specs.Events.{holder_of, reading_of}
+use Rattle.pool_parts.specs.declared.answer.Answer.{Answer}
+use Rattle.pool_parts.specs.declared.answer.Kept.{Kept}
+use Rattle.pool_parts.specs.declared.event.Event.{Event}
+use Rattle.pool_parts.specs.declared.event.Event.TheVariants.{Submit, Order, Receive, Tick, Check, Logged, Ended, Crash, Reopen, Matches, Close}
+use Rattle.pool_parts.specs.Answers.{kept_of}
+use Rattle.pool_parts.specs.Events.{holder_of, reading_of}
 use Rattle.queue_tx.specs.Operations.{Operation}
 use Rattle.receipt_roll.specs.Values.{ReceiptValue}
 

@@ -1,9 +1,9 @@
 -- Which events a holder gives.
 use Rattle.std.specs.Prelude.{◌≡◌, ℕ, ◌<◌, ◌^◌, List, [], ◌∷◌, length, Option, Some, None, IfSome, All}
 use Rattle.claim_id.specs.declared.numbers.ClaimId.{ClaimId}
-use Rattle.pool_event.specs.declared.event.Event.{Event}
-use Rattle.pool_event.specs.declared.event.Event.TheVariants.{Submit, Logged, Ended, Reopen, Matches}
-use Rattle.pool_event.specs.Events.{holder_of}
+use Rattle.pool_parts.specs.declared.event.Event.{Event}
+use Rattle.pool_parts.specs.declared.event.Event.TheVariants.{Submit, Logged, Ended, Reopen, Matches}
+use Rattle.pool_parts.specs.Events.{holder_of}
 use Rattle.pool_mail.specs.declared.end.Ending.{Ending}
 use Rattle.pool_mail.specs.declared.matching.Match.{Match}
 use Rattle.pool_outer.specs.declared.gate.Daemon.{Daemon}

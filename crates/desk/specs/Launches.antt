@@ -3,8 +3,8 @@ use Rattle.std.specs.Prelude.{Bool, false, List}
 use Rattle.std.specs.List.{list_any}
 use Rattle.claim_id.specs.declared.numbers.RunNo.{RunNo}
 use Rattle.desk.specs.declared.entry.Entry.{Entry}
-use Rattle.pool_event.specs.declared.answer.Kept.{Kept}
-use Rattle.pool_event.specs.declared.answer.Kept.TheVariants.{Launch}
+use Rattle.pool_parts.specs.declared.answer.Kept.{Kept}
+use Rattle.pool_parts.specs.declared.answer.Kept.TheVariants.{Launch}
 use Rattle.pool_view.specs.Numbers.{same_run}
 
 abbrev pub is_launch_of : RunNo → Kept → Bool

@@ -4,3 +4,4 @@ pub mod Kinds
 pub mod Launches
 pub mod Logs
 pub mod Passes
+pub mod Standing

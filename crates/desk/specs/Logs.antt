@@ -3,8 +3,8 @@ use Rattle.std.specs.Prelude.{◌≡◌, ℕ, ◌==◌, Bool, true, false, List,
 use Rattle.desk.specs.declared.entry.Entry.{Entry}
 use Rattle.desk.specs.declared.entry.Sort.{Sort}
 use Rattle.desk.specs.declared.entry.Sort.TheVariants.{Logged, Reopen}
-use Rattle.pool_event.specs.declared.answer.Kept.{Kept}
-use Rattle.pool_event.specs.declared.answer.Kept.TheVariants.{Append}
+use Rattle.pool_parts.specs.declared.answer.Kept.{Kept}
+use Rattle.pool_parts.specs.declared.answer.Kept.TheVariants.{Append}
 use Rattle.pool_outer.specs.declared.gate.Daemon.{Daemon}
 use Rattle.pool_outer.specs.declared.gate.Daemon.TheVariants.{Schedd}
 use Rattle.queue_tx.specs.Operations.{Operation}

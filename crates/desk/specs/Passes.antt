@@ -4,8 +4,8 @@ use Rattle.std.specs.List.{list_all}
 use Rattle.desk.specs.declared.entry.Entry.{Entry}
 use Rattle.desk.specs.Launches.{was_launched}
 use Rattle.desk.specs.Logs.{log_of}
-use Rattle.pool_event.specs.declared.answer.Answer.{Answer}
-use Rattle.pool_event.specs.declared.answer.Answer.TheVariants.{Done, Append, Launch, Kill}
+use Rattle.pool_parts.specs.declared.answer.Answer.{Answer}
+use Rattle.pool_parts.specs.declared.answer.Answer.TheVariants.{Done, Append, Launch, Kill}
 use Rattle.pool_tables.specs.declared.refusal.StepError.{StepError}
 use Rattle.pool_tables.specs.declared.refusal.StepError.TheVariants.{Closed}
 

@@ -5,8 +5,8 @@ ghost use Rattle.std.specs.Option.{option_copied};
 ghost use Rattle.desk.specs.Entries.{entry_of, kept_number, number_of, sort_of};
 
 use ad_value::Seq;
-use pool_event::{Event, Kept};
 use pool_outer::Daemon;
+use pool_parts::{Event, Kept};
 use queue_tx::Tx;
 use receipt_roll::Receipt;
 

@@ -6,8 +6,8 @@ ghost use Rattle.desk.specs.declared.entry.Entry.{Entry};
 ghost use Rattle.desk.specs.Entries.{Gained};
 ghost use Rattle.desk.specs.Launches.{is_launch_of, was_launched};
 ghost use Rattle.desk.specs.Logs.{log_after, log_of};
-ghost use Rattle.pool_event.specs.declared.answer.Answer.{Answer};
-ghost use Rattle.pool_event.specs.declared.event.Event.{Event};
+ghost use Rattle.pool_parts.specs.declared.answer.Answer.{Answer};
+ghost use Rattle.pool_parts.specs.declared.event.Event.{Event};
 
 /// Which transactions were logged, by entries and one more, is what they say and the new one adds.
 /// So it is with the runs that were launched.

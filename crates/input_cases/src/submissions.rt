@@ -4,8 +4,7 @@ use ad_tree::{Ad, AdList};
 use cases::{Case, CaseError, escape};
 use std::alloc::{AllocError, Global};
 use std::fmt::Write;
-use submit_file::jobs;
-use submit_job::SubmitError;
+use submit_file::{SubmitError, jobs};
 
 /// The jobs of a submit file: `submit TEXT CLUSTER OWNER READING`.
 pub(crate) fn answer_submit(

@@ -1,20 +1,22 @@
+ghost use Rattle.std.specs.Prelude.{◌≡◌, IfOk};
+ghost use Rattle.pool_lines.specs.Marks.{IsGivenBy};
+
+use crate::error::CourseError;
 use crate::lines::{
-    CLUSTER, OPENING, SLOTS, add_match, close_line, ended_line, logged_line, matches_line,
-    receive_line, submit_line, tick_line,
+    CLUSTER, OPENING, SLOTS, write_close, write_ended, write_logged, write_match, write_matches,
+    write_receive, write_submit, write_tick,
 };
 use crate::times::{Kind, Times};
-use anyhow::{Result, bail};
 use cases::{Case, read_cases};
 use claim_id::{ClaimId, JobId, RunNo};
-use pool_event::{Answer, Stepped};
 use pool_lines::SetUp;
 use pool_mail::{Mail, SlotAd};
 use pool_outer::Daemon;
+use pool_parts::{Answer, Event, Kept, Stepped};
 use pool_script::OpenPool;
 use pool_tables::StepError;
 use slot_state::Pair;
-use std::alloc::Global;
-use std::mem;
+use std::alloc::{AllocError, Global};
 use std::time::Instant;
 
 // The first reading.
@@ -29,6 +31,8 @@ const MOST: u64 = 1_000_000;
 /// A pool and what happens in it.
 pub(crate) struct Course {
     open: OpenPool,
+    // What happens next.
+    line: String,
     reading: u64,
     events: u64,
     ended: u64,
@@ -90,6 +94,7 @@ impl Drop for Course {
     fn drop(self) {
         let Course {
             open: _open,
+            line: _line,
             reading: _,
             events: _,
             ended: _,
@@ -105,14 +110,11 @@ impl Drop for Course {
 
 impl Course {
     /// A pool of an empty queue and four slots.
-    pub(crate) fn open(alloc: Global) -> Result<Course> {
+    pub(crate) fn open(alloc: Global) -> Result<Course, CourseError> {
         let open = open_pool(alloc)?;
-        let mut offers = Vec::new(alloc);
-        for _ in 0..2 * SLOTS {
-            offers.push(None)?;
-        }
         Ok(Course {
             open,
+            line: String::new(alloc),
             reading: FIRST,
             events: 0,
             ended: 0,
@@ -123,7 +125,7 @@ impl Course {
                 matchmaker: 0,
             },
             running: Vec::new(alloc),
-            offers,
+            offers: Vec::new(alloc),
             next: 1,
             clusters: 0,
             times: Times::none(),
@@ -141,18 +143,31 @@ impl Course {
     }
 
     /// So many jobs are submitted, run and end, and the pool is closed.
-    pub(crate) fn run(&mut self, rt: &HostRuntime, count: u32) -> Result<()> {
+    pub(crate) fn run(&mut self, rt: &HostRuntime, count: u32) -> Result<(), CourseError> {
+        self.make_places()?;
         self.submit(rt, count)?;
         self.settle(rt)?;
+        self.run_all(rt, count)?;
+        self.close(rt)
+    }
+
+    fn make_places(&mut self) -> Result<(), CourseError> {
+        for _ in 0..2 * SLOTS {
+            self.offers.push(None)?;
+        }
+        Ok(())
+    }
+
+    fn run_all(&mut self, rt: &HostRuntime, count: u32) -> Result<(), CourseError> {
         for _ in 0..count {
             if self.ended < u64::from(count) {
                 self.run_some(rt)?;
             }
         }
-        self.close(rt)
+        Ok(())
     }
 
-    fn submit(&mut self, rt: &HostRuntime, count: u32) -> Result<()> {
+    fn submit(&mut self, rt: &HostRuntime, count: u32) -> Result<(), CourseError> {
         let mut left = count;
         for _ in 0..count.div_ceil(CLUSTER) {
             self.submit_cluster(rt, left.min(CLUSTER))?;
@@ -161,14 +176,15 @@ impl Course {
         Ok(())
     }
 
-    fn submit_cluster(&mut self, rt: &HostRuntime, jobs: u32) -> Result<()> {
+    fn submit_cluster(&mut self, rt: &HostRuntime, jobs: u32) -> Result<(), CourseError> {
         self.clusters = self.clusters.saturating_add(1);
-        let line = submit_line(rt.alloc(), self.clusters, jobs, self.reading)?;
-        self.happen(rt, Kind::Submit, line.as_str())
+        self.line.clear();
+        write_submit(self.clusters, jobs, self.reading, &mut self.line)?;
+        self.happen(rt, Kind::Submit)
     }
 
     // Jobs run on all slots, and end.
-    fn run_some(&mut self, rt: &HostRuntime) -> Result<()> {
+    fn run_some(&mut self, rt: &HostRuntime) -> Result<(), CourseError> {
         self.match_offers(rt)?;
         self.settle(rt)?;
         self.reading = self.reading.saturating_add(RUN_SECONDS);
@@ -179,9 +195,9 @@ impl Course {
 
     // ---- what happens
 
-    // One event, and what is logged by it.
-    fn happen(&mut self, rt: &HostRuntime, kind: Kind, line: &str) -> Result<()> {
-        match self.act(rt, kind, line)? {
+    // One event, which the line says, and what is logged by it.
+    fn happen(&mut self, rt: &HostRuntime, kind: Kind) -> Result<(), CourseError> {
+        match self.act(rt, kind)? {
             Asked::Nothing => Ok(()),
             Asked::Log(number) => self.log(rt, kind, number),
             Asked::Run(run) => {
@@ -191,122 +207,116 @@ impl Course {
         }
     }
 
-    fn log(&mut self, rt: &HostRuntime, kind: Kind, number: u64) -> Result<()> {
-        let line = logged_line(rt.alloc(), number)?;
-        let kind = match kind {
-            Kind::Submit => Kind::LoggedJobs,
-            _ => Kind::LoggedPlan,
-        };
-        self.act(rt, kind, line.as_str())?;
+    fn log(&mut self, rt: &HostRuntime, kind: Kind, number: u64) -> Result<(), CourseError> {
+        self.line.clear();
+        write_logged(number, &mut self.line)?;
+        self.act(rt, logged_kind(kind))?;
         Ok(())
     }
 
-    fn act(&mut self, rt: &HostRuntime, kind: Kind, line: &str) -> Result<Asked> {
-        let cases = read_cases(rt.alloc(), line)?;
-        match cases.first() {
-            Some(case) => self.act_by(rt, kind, *case),
-            None => bail!("no case"),
-        }
-    }
-
-    fn act_by(&mut self, rt: &HostRuntime, kind: Kind, case: Case<'_>) -> Result<Asked> {
-        let event = self.open.read_event(rt.alloc(), case)?;
-        let start = Instant::now(rt);
+    fn act(&mut self, rt: &HostRuntime, kind: Kind) -> Result<Asked, CourseError> {
+        let event = event_in(rt.alloc(), &mut self.open, self.line.as_str())?;
+        let start = moment(rt);
         let stepped = self.open.step(rt.alloc(), event);
-        let end = Instant::now(rt);
-        let asked = self.take(rt.alloc(), stepped)?;
-        let nanos = end?.duration_since(start?).as_nanos();
-        self.times.add(kind, nanos);
+        let end = moment(rt);
+        self.times.add(kind, nanos_between(start, end));
         self.events = self.events.saturating_add(1);
-        Ok(asked)
-    }
-
-    fn take(&mut self, alloc: Global, stepped: Result<Stepped, StepError>) -> Result<Asked> {
-        match stepped {
-            Ok(stepped) => {
-                let Stepped { answer, kept } = stepped;
-                let asked = asked_by(answer);
-                self.open.note(alloc, &kept)?;
-                Ok(asked)
-            }
-            Err(error) => Err(error.into()),
-        }
+        take(rt.alloc(), &mut self.open, stepped)
     }
 
     // ---- mails and time
 
     // Mails are received and time passes until nothing is left.
-    fn settle(&mut self, rt: &HostRuntime) -> Result<()> {
+    fn settle(&mut self, rt: &HostRuntime) -> Result<(), CourseError> {
         for _ in 0..MOST {
             let before = self.events;
-            for who in DAEMONS {
-                self.receive(rt, who)?;
-                self.tick(rt, who)?;
-            }
+            self.turn_all(rt)?;
             if self.events == before {
                 return Ok(());
             }
         }
-        bail!("no end")
+        Err(CourseError::NoEnd)
     }
 
-    fn receive(&mut self, rt: &HostRuntime, who: Daemon) -> Result<()> {
-        for _ in 0..MOST {
-            let Some(index) = self.open.pool().next(who, self.received.by(who)) else {
-                return Ok(());
-            };
-            self.received.set(who, index.saturating_add(1));
-            self.note_offer(index);
-            let line = receive_line(rt.alloc(), who, index, self.reading)?;
-            self.happen(rt, receive_kind(who), line.as_str())?;
+    fn turn_all(&mut self, rt: &HostRuntime) -> Result<(), CourseError> {
+        for who in DAEMONS {
+            self.receive(rt, who)?;
+            self.tick(rt, who)?;
         }
-        bail!("no end of mails")
+        Ok(())
     }
 
-    fn tick(&mut self, rt: &HostRuntime, who: Daemon) -> Result<()> {
+    fn receive(&mut self, rt: &HostRuntime, who: Daemon) -> Result<(), CourseError> {
+        for _ in 0..MOST {
+            match self.open.pool().next(who, self.received.by(who)) {
+                Some(index) => self.receive_mail(rt, who, index)?,
+                None => return Ok(()),
+            }
+        }
+        Err(CourseError::NoEnd)
+    }
+
+    fn receive_mail(
+        &mut self,
+        rt: &HostRuntime,
+        who: Daemon,
+        index: u64,
+    ) -> Result<(), CourseError> {
+        self.received.set(who, index.saturating_add(1));
+        self.note_offer(index);
+        self.line.clear();
+        write_receive(who, index, self.reading, &mut self.line)?;
+        self.happen(rt, receive_kind(who))
+    }
+
+    fn tick(&mut self, rt: &HostRuntime, who: Daemon) -> Result<(), CourseError> {
         if !self.open.pool().due(rt.alloc(), who, self.reading) {
             return Ok(());
         }
-        let line = tick_line(rt.alloc(), who, self.reading)?;
-        self.happen(rt, tick_kind(who), line.as_str())
+        self.line.clear();
+        write_tick(who, self.reading, &mut self.line)?;
+        self.happen(rt, tick_kind(who))
     }
 
     // What a slot offers, where the mail says it.
     fn note_offer(&mut self, index: u64) {
-        if let Some(sent) = self.open.pool().mails().get(index) {
-            if let Mail::Update(slot) = &sent.mail {
-                let (place, offer) = (place_of(slot), offer_of(slot));
-                if let Some(kept) = self.offers.get_mut(place) {
-                    *kept = offer;
-                }
+        if let Some((place, offer)) = offer_in(&self.open, index) {
+            if let Some(kept) = self.offers.get_mut(place) {
+                *kept = offer;
             }
         }
     }
 
     // ---- matches and ends
 
-    fn match_offers(&mut self, rt: &HostRuntime) -> Result<()> {
+    fn match_offers(&mut self, rt: &HostRuntime) -> Result<(), CourseError> {
         let first = self.next;
-        let mut line = matches_line(rt.alloc(), self.reading)?;
-        self.add_matches(&mut line)?;
+        self.line.clear();
+        write_matches(self.reading, &mut self.line)?;
+        self.add_matches()?;
         if self.next > first {
-            self.happen(rt, Kind::Matches, line.as_str())?;
+            self.happen(rt, Kind::Matches)?;
         }
         Ok(())
     }
 
-    fn add_matches(&mut self, line: &mut String) -> Result<()> {
+    fn add_matches(&mut self) -> Result<(), AllocError> {
         for place in 0..self.offers.len() {
             if let Some(claim) = self.take_offer(place) {
-                let job = JobId {
-                    cluster: self.next,
-                    proc: 0,
-                };
-                self.next = self.next.saturating_add(1);
-                add_match(job, claim, self.reading, line)?;
+                self.add_match(claim)?;
             }
         }
         Ok(())
+    }
+
+    // The next cluster's first job goes with the claim.
+    fn add_match(&mut self, claim: ClaimId) -> Result<(), AllocError> {
+        let job = JobId {
+            cluster: self.next,
+            proc: 0,
+        };
+        self.next = self.next.saturating_add(1);
+        write_match(job, claim, self.reading, &mut self.line)
     }
 
     // The claim that the slot of a place offers, where a cluster is left.
@@ -317,56 +327,125 @@ impl Course {
         self.offers.get_mut(place)?.take()
     }
 
-    fn end_runs(&mut self, rt: &HostRuntime) -> Result<()> {
-        let running = mem::replace(&mut self.running, Vec::new(rt.alloc()));
-        for run in &running {
-            let line = ended_line(rt.alloc(), *run, self.reading)?;
-            self.happen(rt, Kind::Ended, line.as_str())?;
-            self.ended = self.ended.saturating_add(1);
+    fn end_runs(&mut self, rt: &HostRuntime) -> Result<(), CourseError> {
+        for place in 0..self.running.len() {
+            if let Some(run) = self.running.get(place) {
+                let run = *run;
+                self.end_run(rt, run)?;
+            }
         }
+        self.running.clear();
         Ok(())
+    }
+
+    fn end_run(&mut self, rt: &HostRuntime, run: RunNo) -> Result<(), CourseError> {
+        self.line.clear();
+        write_ended(run, self.reading, &mut self.line)?;
+        self.ended = self.ended.saturating_add(1);
+        self.happen(rt, Kind::Ended)
     }
 
     // ---- the end
 
-    fn close(&mut self, rt: &HostRuntime) -> Result<()> {
-        let line = close_line(rt.alloc(), self.events, self.reading)?;
-        let cases = read_cases(rt.alloc(), line.as_str())?;
-        match cases.first() {
-            Some(case) => self.close_by(rt, *case),
-            None => bail!("no case"),
-        }
-    }
-
     // With the time in which the proof is made.
-    fn close_by(&mut self, rt: &HostRuntime, case: Case<'_>) -> Result<()> {
-        let mut answer = String::new(rt.alloc());
-        let start = Instant::now(rt)?;
-        self.open.answer(rt.alloc(), case, &mut answer)?;
-        let nanos = start.elapsed(rt)?.as_nanos();
-        self.times.add(Kind::Close, nanos);
-        if answer.as_str() != "ok\tDone" {
-            bail!("not closed: {answer}");
+    fn close(&mut self, rt: &HostRuntime) -> Result<(), CourseError> {
+        self.line.clear();
+        write_close(self.events, self.reading, &mut self.line)?;
+        let start = moment(rt);
+        let closed = answers_done(rt.alloc(), &mut self.open, self.line.as_str())?;
+        self.times
+            .add(Kind::Close, nanos_between(start, moment(rt)));
+        if closed {
+            Ok(())
+        } else {
+            Err(CourseError::NotClosed)
         }
-        Ok(())
     }
 }
 
-fn open_pool(alloc: Global) -> Result<OpenPool> {
-    let cases = read_cases(alloc, OPENING)?;
-    let Some((first, more)) = cases.as_slice().split_first() else {
-        bail!("no opening");
-    };
-    let setup = set_up(alloc, *first, more)?;
+// ---- the pool
+
+fn open_pool(alloc: Global) -> Result<OpenPool, CourseError> {
+    let setup = set_up(alloc)?;
     Ok(OpenPool::open(alloc, setup)?)
 }
 
-fn set_up(alloc: Global, first: Case<'_>, more: &[Case<'_>]) -> Result<SetUp> {
+fn set_up(alloc: Global) -> Result<SetUp, CourseError> {
+    let cases = read_cases(alloc, OPENING)?;
+    match cases.as_slice().split_first() {
+        Some((first, more)) => set_up_by(alloc, *first, more),
+        None => Err(CourseError::NoCase),
+    }
+}
+
+fn set_up_by(alloc: Global, first: Case<'_>, more: &[Case<'_>]) -> Result<SetUp, CourseError> {
     let mut setup = SetUp::of(alloc, first)?;
+    go_on(alloc, &mut setup, more)?;
+    Ok(setup)
+}
+
+fn go_on(alloc: Global, setup: &mut SetUp, more: &[Case<'_>]) -> Result<(), CourseError> {
     for case in more {
         setup.go_on(alloc, *case)?;
     }
-    Ok(setup)
+    Ok(())
+}
+
+// The event that a line says, which may be given to the pool.
+fn event_in(alloc: Global, pool: &mut OpenPool, line: &str) -> Result<Event, CourseError>
+    ensures marks { pool.new ≡ pool.old }
+    ensures given { IfOk result (IsGivenBy pool.old) }
+{
+    let cases = read_cases(alloc, line)?;
+    match cases.first() {
+        Some(case) => event_by(alloc, pool, *case),
+        None => Err(CourseError::NoCase),
+    }
+}
+
+fn event_by(alloc: Global, pool: &mut OpenPool, case: Case<'_>) -> Result<Event, CourseError>
+    ensures marks { pool.new ≡ pool.old }
+    ensures given { IfOk result (IsGivenBy pool.old) }
+{
+    match pool.read_event(alloc, case) {
+        Ok(event) => Ok(event),
+        Err(error) => Err(CourseError::Case(error)),
+    }
+}
+
+// Whether the pool answers a line with Done.
+fn answers_done(alloc: Global, open: &mut OpenPool, line: &str) -> Result<bool, CourseError> {
+    let cases = read_cases(alloc, line)?;
+    match cases.first() {
+        Some(case) => is_done(alloc, open, *case),
+        None => Err(CourseError::NoCase),
+    }
+}
+
+fn is_done(alloc: Global, open: &mut OpenPool, case: Case<'_>) -> Result<bool, CourseError> {
+    let mut answer = String::new(alloc);
+    open.answer(alloc, case, &mut answer)?;
+    Ok(answer.as_str() == "ok\tDone")
+}
+
+fn take(
+    alloc: Global,
+    open: &mut OpenPool,
+    stepped: Result<Stepped, StepError>,
+) -> Result<Asked, CourseError> {
+    match stepped {
+        Ok(stepped) => {
+            let Stepped { answer, kept } = stepped;
+            let asked = asked_by(answer);
+            note(alloc, open, &kept)?;
+            Ok(asked)
+        }
+        Err(error) => Err(CourseError::Step(error)),
+    }
+}
+
+fn note(alloc: Global, open: &mut OpenPool, kept: &Kept) -> Result<(), CourseError> {
+    Ok(open.note(alloc, kept)?)
 }
 
 fn asked_by(answer: Answer) -> Asked {
@@ -378,6 +457,13 @@ fn asked_by(answer: Answer) -> Asked {
             Asked::Run(run)
         }
         Answer::Kill { runs: _runs } => Asked::Nothing,
+    }
+}
+
+fn logged_kind(kind: Kind) -> Kind {
+    match kind {
+        Kind::Submit => Kind::LoggedJobs,
+        _ => Kind::LoggedPlan,
     }
 }
 
@@ -396,6 +482,14 @@ fn tick_kind(who: Daemon) -> Kind {
     }
 }
 
+// The place of the slot of which a mail speaks, and what it offers.
+fn offer_in(open: &OpenPool, index: u64) -> Option<(usize, Option<ClaimId>)> {
+    match &open.pool().mails().get(index)?.mail {
+        Mail::Update(slot) => Some((place_of(slot), offer_of(slot))),
+        _ => None,
+    }
+}
+
 fn place_of(slot: &SlotAd) -> usize {
     let (machine, number) = (usize::from(slot.slot.machine), usize::from(slot.slot.slot));
     (machine * usize::from(SLOTS) + number).saturating_sub(1)
@@ -405,5 +499,20 @@ fn offer_of(slot: &SlotAd) -> Option<ClaimId> {
     match slot.pair {
         Pair::UnclaimedIdle => slot.claim,
         _ => None,
+    }
+}
+
+// None where the clock can't be read.
+fn moment(rt: &HostRuntime) -> Option<Instant> {
+    match Instant::now(rt) {
+        Ok(now) => Some(now),
+        Err(_) => None,
+    }
+}
+
+fn nanos_between(start: Option<Instant>, end: Option<Instant>) -> u128 {
+    match (start, end) {
+        (Some(start), Some(end)) => end.duration_since(start).as_nanos(),
+        _ => 0,
     }
 }

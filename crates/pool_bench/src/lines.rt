@@ -3,7 +3,7 @@
 use claim_id::{ClaimId, JobId, RunNo};
 use daemon_texts::{write_claim, write_job, write_run};
 use pool_outer::Daemon;
-use std::alloc::{AllocError, Global};
+use std::alloc::AllocError;
 use std::fmt::Write;
 
 /// How many slots each of the two machines has.
@@ -47,25 +47,24 @@ fn write_ad(job: JobId, line: &mut String) -> Result<(), AllocError> {
     line.push_str(EQUAL)
 }
 
-/// So many jobs of a cluster are submitted.
-pub(crate) fn submit_line(
-    alloc: Global,
+/// Appends that so many jobs of a cluster are submitted.
+pub(crate) fn write_submit(
     cluster: u32,
     count: u32,
     reading: u64,
-) -> Result<String, AllocError> {
-    let mut line = String::new(alloc);
+    line: &mut String,
+) -> Result<(), AllocError> {
     write!(line, "submit\t{BOOT}\t{reading}")?;
     for proc in 0..count {
         line.push('\t')?;
-        write_ad(JobId { cluster, proc }, &mut line)?;
+        write_ad(JobId { cluster, proc }, line)?;
     }
-    Ok(line)
+    Ok(())
 }
 
-/// The transaction of that number is logged.
-pub(crate) fn logged_line(alloc: Global, number: u64) -> Result<String, AllocError> {
-    format!(in alloc; "logged\t{BOOT}\t{number}")
+/// Appends that the transaction of that number is logged.
+pub(crate) fn write_logged(number: u64, line: &mut String) -> Result<(), AllocError> {
+    write!(line, "logged\t{BOOT}\t{number}")
 }
 
 fn write_daemon(who: Daemon, line: &mut String) -> Result<(), AllocError> {
@@ -76,47 +75,49 @@ fn write_daemon(who: Daemon, line: &mut String) -> Result<(), AllocError> {
     }
 }
 
-/// A daemon receives the mail of that number.
-pub(crate) fn receive_line(
-    alloc: Global,
+/// Appends that a daemon receives the mail of that number.
+pub(crate) fn write_receive(
     who: Daemon,
     index: u64,
     reading: u64,
-) -> Result<String, AllocError> {
-    let mut line = String::from_str(alloc, "receive\t")?;
-    write_daemon(who, &mut line)?;
+    line: &mut String,
+) -> Result<(), AllocError> {
+    line.push_str("receive\t")?;
+    write_daemon(who, line)?;
     write!(line, "\t{BOOT}\t{index}\t{reading}\t")?;
+    write_judge(who, reading, line)
+}
+
+// A startd judges the mail's ad and its slot's.
+fn write_judge(who: Daemon, reading: u64, line: &mut String) -> Result<(), AllocError> {
     match who {
-        Daemon::Startd(_) => write!(line, "own\t{reading}")?,
-        Daemon::Schedd | Daemon::Matchmaker => line.push('-')?,
+        Daemon::Startd(_) => write!(line, "own\t{reading}"),
+        Daemon::Schedd | Daemon::Matchmaker => line.push('-'),
     }
-    Ok(line)
 }
 
-/// Time passes for a daemon.
-pub(crate) fn tick_line(alloc: Global, who: Daemon, reading: u64) -> Result<String, AllocError> {
-    let mut line = String::from_str(alloc, "tick\t")?;
-    write_daemon(who, &mut line)?;
-    write!(line, "\t{BOOT}\t{reading}")?;
-    Ok(line)
+/// Appends that time passes for a daemon.
+pub(crate) fn write_tick(who: Daemon, reading: u64, line: &mut String) -> Result<(), AllocError> {
+    line.push_str("tick\t")?;
+    write_daemon(who, line)?;
+    write!(line, "\t{BOOT}\t{reading}")
 }
 
-/// The program of a run has ended.
-pub(crate) fn ended_line(alloc: Global, run: RunNo, reading: u64) -> Result<String, AllocError> {
+/// Appends that the program of a run has ended.
+pub(crate) fn write_ended(run: RunNo, reading: u64, line: &mut String) -> Result<(), AllocError> {
     let machine = run.claim.slot.machine;
-    let mut line = format!(in alloc; "ended\t{machine}\t{BOOT}\t")?;
-    write_run(run, &mut line)?;
-    write!(line, "\tExited,0\t{reading}")?;
-    Ok(line)
+    write!(line, "ended\t{machine}\t{BOOT}\t")?;
+    write_run(run, line)?;
+    write!(line, "\tExited,0\t{reading}")
 }
 
-/// Matches are found, perhaps none yet.
-pub(crate) fn matches_line(alloc: Global, reading: u64) -> Result<String, AllocError> {
-    format!(in alloc; "matches\t{reading}")
+/// Appends that matches are found, perhaps none yet.
+pub(crate) fn write_matches(reading: u64, line: &mut String) -> Result<(), AllocError> {
+    write!(line, "matches\t{reading}")
 }
 
-/// One match more: the job goes with the claim.
-pub(crate) fn add_match(
+/// Appends one match more: the job goes with the claim.
+pub(crate) fn write_match(
     job: JobId,
     claim: ClaimId,
     reading: u64,
@@ -126,12 +127,17 @@ pub(crate) fn add_match(
     write_job(job, line)?;
     line.push('\t')?;
     write_claim(claim, line)?;
+    write_judged(job, reading, line)
+}
+
+// By what the match was judged: the job's ad, and the slot's as the pool has it.
+fn write_judged(job: JobId, reading: u64, line: &mut String) -> Result<(), AllocError> {
     write!(line, "\tfalse\t{reading}\t")?;
     write_ad(job, line)?;
     line.push_str("\t-")
 }
 
-/// Nothing is left to do after so many events.
-pub(crate) fn close_line(alloc: Global, length: u64, reading: u64) -> Result<String, AllocError> {
-    format!(in alloc; "close\t{length}\t{reading}\t{reading}")
+/// Appends that nothing is left to do after so many events.
+pub(crate) fn write_close(length: u64, reading: u64, line: &mut String) -> Result<(), AllocError> {
+    write!(line, "close\t{length}\t{reading}\t{reading}")
 }

@@ -6,6 +6,7 @@
 #![tactic(auto)]
 
 mod course;
+mod error;
 mod lines;
 mod times;
 

@@ -71,66 +71,26 @@ impl Time {
 /// How long events of each kind took.
 #[derive(Clone, Copy)]
 pub(crate) struct Times {
-    submit: Time,
-    logged_jobs: Time,
-    logged_plan: Time,
-    schedd_receives: Time,
-    startd_receives: Time,
-    matchmaker_receives: Time,
-    schedd_ticks: Time,
-    startd_ticks: Time,
-    matches: Time,
-    ended: Time,
-    close: Time,
+    // By kind.
+    all: [Time; 11],
 }
 
 impl Times {
     pub(crate) fn none() -> Times {
-        Times {
-            submit: NO_TIME,
-            logged_jobs: NO_TIME,
-            logged_plan: NO_TIME,
-            schedd_receives: NO_TIME,
-            startd_receives: NO_TIME,
-            matchmaker_receives: NO_TIME,
-            schedd_ticks: NO_TIME,
-            startd_ticks: NO_TIME,
-            matches: NO_TIME,
-            ended: NO_TIME,
-            close: NO_TIME,
-        }
+        Times { all: [NO_TIME; 11] }
     }
 
     pub(crate) fn of(&self, kind: Kind) -> Time {
-        match kind {
-            Kind::Submit => self.submit,
-            Kind::LoggedJobs => self.logged_jobs,
-            Kind::LoggedPlan => self.logged_plan,
-            Kind::ScheddReceives => self.schedd_receives,
-            Kind::StartdReceives => self.startd_receives,
-            Kind::MatchmakerReceives => self.matchmaker_receives,
-            Kind::ScheddTicks => self.schedd_ticks,
-            Kind::StartdTicks => self.startd_ticks,
-            Kind::Matches => self.matches,
-            Kind::Ended => self.ended,
-            Kind::Close => self.close,
+        match self.all.get(kind as usize) {
+            Some(time) => *time,
+            None => NO_TIME,
         }
     }
 
     /// One event more of a kind.
     pub(crate) fn add(&mut self, kind: Kind, nanos: u128) {
-        match kind {
-            Kind::Submit => self.submit.add(nanos),
-            Kind::LoggedJobs => self.logged_jobs.add(nanos),
-            Kind::LoggedPlan => self.logged_plan.add(nanos),
-            Kind::ScheddReceives => self.schedd_receives.add(nanos),
-            Kind::StartdReceives => self.startd_receives.add(nanos),
-            Kind::MatchmakerReceives => self.matchmaker_receives.add(nanos),
-            Kind::ScheddTicks => self.schedd_ticks.add(nanos),
-            Kind::StartdTicks => self.startd_ticks.add(nanos),
-            Kind::Matches => self.matches.add(nanos),
-            Kind::Ended => self.ended.add(nanos),
-            Kind::Close => self.close.add(nanos),
+        if let Some(time) = self.all.get_mut(kind as usize) {
+            time.add(nanos);
         }
     }
 }

@@ -5,18 +5,18 @@ use Rattle.ad_tree.specs.Ad.{Attributes}
 use Rattle.claim_id.specs.declared.numbers.JobId.{JobId}
 use Rattle.claim_id.specs.declared.numbers.RunNo.{RunNo}
 use Rattle.claim_id.specs.declared.numbers.SlotId.{SlotId}
-use Rattle.pool_event.specs.declared.event.Event.{Event}
-use Rattle.pool_event.specs.declared.event.Event.TheVariants as event
-use Rattle.pool_machines.specs.Slots.{first_claimed, first_left, has_run}
+use Rattle.pool_parts.specs.declared.event.Event.{Event}
+use Rattle.pool_parts.specs.declared.event.Event.TheVariants as event
+use Rattle.pool_shown.specs.Slots.{first_claimed, first_left, has_run}
 use Rattle.pool_mail.specs.declared.end.Ending.{Ending}
 use Rattle.pool_mail.specs.declared.mail.Mail.{Mail}
 use Rattle.pool_outer.specs.declared.gate.Daemon.{Daemon}
 use Rattle.pool_outer.specs.declared.gate.Daemon.TheVariants.{Schedd, Startd, Matchmaker}
-use Rattle.pool_pending.specs.declared.pending.Pending.{Pending}
-use Rattle.pool_pending.specs.Receipts.{IsItemRefusal, IsKeptRefusal, IsReceiptRefusal, still_pending}
-use Rattle.pool_refusals.specs.Judging.{IsSomeLive, judged_in, nothing_given}
-use Rattle.pool_refusals.specs.Refusals.{IsAdRefusal, IsAdRefusalBy, IsEventRefusal, IsIdleRefusal, IsNone, IsRefusal, IsReturnRefusal, IsUnquietRefusal, Refusal, Then, Unless, busy_refusal, check_refusal, claim_left, closed_refusal, down_left, ended_refusal, events_refusal, first_of, first_slot, is_over, jobs_refusal, matchmaker_refusal, moved, not_quiet, order_left, order_refusal, pending_left, receive_refusal, run_left, run_refusal, schedd_refusal, stray_refusal, submit_refusal, tick_refusal, under_left, unless_due, unquiet_refusal}
-use Rattle.pool_refusals.specs.declared.refusal.TheConstants.{MAX_EVENTS}
+use Rattle.pool_parts.specs.declared.pending.Pending.{Pending}
+use Rattle.pool_parts.specs.Receipts.{IsItemRefusal, IsKeptRefusal, IsReceiptRefusal, still_pending}
+use Rattle.pool_rules.specs.Judging.{IsSomeLive, judged_in, nothing_given}
+use Rattle.pool_rules.specs.Refusals.{IsAdRefusal, IsAdRefusalBy, IsEventRefusal, IsIdleRefusal, IsNone, IsRefusal, IsReturnRefusal, IsUnquietRefusal, Refusal, Then, Unless, busy_refusal, check_refusal, claim_left, closed_refusal, down_left, ended_refusal, events_refusal, first_of, first_slot, is_over, jobs_refusal, matchmaker_refusal, moved, not_quiet, order_left, order_refusal, pending_left, receive_refusal, run_left, run_refusal, schedd_refusal, stray_refusal, submit_refusal, tick_refusal, under_left, unless_due, unquiet_refusal}
+use Rattle.pool_rules.specs.declared.refusal.TheConstants.{MAX_EVENTS}
 use Rattle.pool_state.specs.declared.state.PoolState.{PoolState}
 use Rattle.pool_state.specs.Readings.{is_startd_due}
 use Rattle.pool_tables.specs.DaemonTables.{boot_refusal, crash_refusal, crash_refusal_at, daemon_refusal, first_down, reopen_refusal, reopen_refusal_at, same_daemon, daemon_state, state_refusal}

@@ -2,11 +2,11 @@
 use Rattle.std.proofs.Common.{◌≤◌, Result, Ok, Err, sym, subst}
 use Rattle.std.specs.Prelude.{IfOk, OnOk}
 use Rattle.pool_core.specs.KeptPools.{IsKeptPool}
-use Rattle.pool_event.specs.declared.answer.Stepped.{Stepped}
-use Rattle.pool_event.specs.declared.event.Event.{Event}
-use Rattle.pool_limits.specs.declared.size.TheConstants.{MAX_BYTES}
-use Rattle.pool_moves.specs.Happens.{Reacts}
-use Rattle.pool_moves.specs.Limits.{IsWithin}
+use Rattle.pool_parts.specs.declared.answer.Stepped.{Stepped}
+use Rattle.pool_parts.specs.declared.event.Event.{Event}
+use Rattle.pool_parts.specs.declared.size.TheConstants.{MAX_BYTES}
+use Rattle.pool_rules.specs.Happens.{Reacts}
+use Rattle.pool_rules.specs.Limits.{IsWithin}
 use Rattle.pool_safety.specs.Counted.{CountsBytes}
 use Rattle.pool_safety.proofs.Counting.{event_counts}
 use Rattle.pool_safety.proofs.Readers.{some_reads}

@@ -1,8 +1,8 @@
 -- Histories go on.
 use Rattle.std.proofs.Common.{◌≡◌, refl, sym, ◌∙◌, ap, subst, List, [], ◌∷◌, ◌++◌, Bool, Some, IfSome, map}
 use Rattle.std.proofs.lemmas.List.{map-append}
-use Rattle.pool_event.specs.declared.answer.Stepped.{Stepped}
-use Rattle.pool_event.specs.declared.event.Event.{Event}
+use Rattle.pool_parts.specs.declared.answer.Stepped.{Stepped}
+use Rattle.pool_parts.specs.declared.event.Event.{Event}
 use Rattle.pool_safety.specs.Histories as accepted
 use Rattle.pool_safety.specs.Histories.{Accepts, IsHistory, LeadsTo}
 use Rattle.pool_state.specs.declared.opening.Opening.{Opening}

@@ -2,20 +2,20 @@
 use Rattle.std.proofs.Common.{◌≡◌, ℕ, List, Option, Some, None, Result, Ok, Err, sym, subst}
 use Rattle.std.specs.Prelude.{IfOk, IfSome, OnErr, OnOk}
 use Rattle.claim_id.specs.declared.numbers.ClaimId.{ClaimId}
-use Rattle.loggable.specs.Answers.{CanAppend}
-use Rattle.loggable.specs.Loggable.{CanBeLogged, IsLoggableQueue}
+use Rattle.pool_parts.specs.Appends.{CanAppend}
+use Rattle.pool_parts.specs.Loggable.{CanBeLogged, IsLoggableQueue}
 use Rattle.pool_core.specs.KeptPools.{IsKeptPool}
 use Rattle.pool_core.specs.ShortPlans.{HasShortPlan, IsShortPlan}
-use Rattle.pool_event.specs.declared.answer.Stepped.{Stepped}
-use Rattle.pool_event.specs.declared.event.Event.{Event}
+use Rattle.pool_parts.specs.declared.answer.Stepped.{Stepped}
+use Rattle.pool_parts.specs.declared.event.Event.{Event}
 use Rattle.pool_links.proofs.Viewing.{linked_shows, shown_safe}
-use Rattle.pool_moves.specs.Given.{IsGiven}
-use Rattle.pool_moves.specs.Happens.{Reacts}
-use Rattle.pool_pending.specs.declared.pending.Pending.{Pending}
-use Rattle.pool_pending.specs.declared.pending.Unfinished.{Unfinished}
-use Rattle.pool_pending.specs.declared.pending.Unfinished.TheVariants.{Submission, Plan}
+use Rattle.pool_rules.specs.Given.{IsGiven}
+use Rattle.pool_rules.specs.Happens.{Reacts}
+use Rattle.pool_parts.specs.declared.pending.Pending.{Pending}
+use Rattle.pool_parts.specs.declared.pending.Unfinished.{Unfinished}
+use Rattle.pool_parts.specs.declared.pending.Unfinished.TheVariants.{Submission, Plan}
 use Rattle.pool_protocol.specs.ProtocolMove.{protocol_after_all}
-use Rattle.pool_moves.specs.Limits.{IsWithin}
+use Rattle.pool_rules.specs.Limits.{IsWithin}
 use Rattle.pool_core.proofs.CountedSteps.{opening_within}
 use Rattle.pool_safety.proofs.Counting.{event_counted, opening_counted}
 use Rattle.pool_safety.proofs.FewJobs.{event_few_jobs, opening_few_jobs}
@@ -34,7 +34,7 @@ use Rattle.pool_safety.specs.Kept.{GoesOn, IsPendingTx, IsTxOf}
 use Rattle.pool_safety.specs.Parts.{parts_of}
 use Rattle.pool_safety.specs.Steps.{IsStepOf}
 use Rattle.pool_safety.specs.Unfinished.{IsShort}
-use Rattle.pool_refusals.specs.Refusals.{IsRefusal}
+use Rattle.pool_rules.specs.Refusals.{IsRefusal}
 use Rattle.pool_state.specs.Openings.{CanOpen, IsOpenedBy}
 use Rattle.pool_state.specs.PoolViews.{IsViewOf}
 use Rattle.pool_state.specs.declared.opening.Opening.{Opening}

@@ -3,12 +3,12 @@ use Rattle.std.proofs.Common.{◌+◌, ◌<◌, ◌≤◌, length, get_or, drop,
 use Rattle.std.proofs.lemmas.List.{at_drop_more, drop_all}
 use Rattle.ad_eval.specs.Judgement.{Judgement}
 use Rattle.pool_mail.specs.declared.matching.Match.{Match}
-use Rattle.pool_refusals.specs.Judging.{IsLive}
+use Rattle.pool_rules.specs.Judging.{IsLive}
 use Rattle.pool_state.specs.declared.state.PoolState.{PoolState}
-use Rattle.pool_event.specs.declared.answer.Stepped.{Stepped}
-use Rattle.pool_moves.specs.Deeds.{at_rest}
-use Rattle.pool_moves.specs.Happens.{AreLive, ArePassed}
-use Rattle.pool_moves.specs.Masters.{passes}
+use Rattle.pool_parts.specs.declared.answer.Stepped.{Stepped}
+use Rattle.pool_rules.specs.Deeds.{at_rest}
+use Rattle.pool_rules.specs.Happens.{AreLive, ArePassed}
+use Rattle.pool_rules.specs.Masters.{passes}
 use Rattle.pool_core.specs.Made.{IsMade}
 use Rattle.pool_core.proofs.Resting.{are_live_rest}
 use Rattle.pool_core.specs.Pushed.{IsPushed}

@@ -5,10 +5,10 @@ use Rattle.pool_outer.specs.declared.gate.Daemon.TheVariants.{Schedd}
 use Rattle.pool_state.specs.declared.state.PoolState.{PoolState}
 use Rattle.pool_tables.specs.declared.sent.Sent.{Sent}
 use Rattle.pool_tables.specs.MailLists.{may_receive_sent}
-use Rattle.pool_moves.specs.Deeds.{receives}
-use Rattle.pool_moves.specs.Happens.{IsDone, Receives, is_known}
-use Rattle.pool_moves.specs.Limits.{IsTooLarge}
-use Rattle.pool_moves.specs.Schedds.{ScheddReceives}
+use Rattle.pool_rules.specs.Deeds.{receives}
+use Rattle.pool_rules.specs.Happens.{IsDone, Receives, is_known}
+use Rattle.pool_rules.specs.Limits.{IsTooLarge}
+use Rattle.pool_rules.specs.Schedds.{ScheddReceives}
 use Rattle.pool_core.specs.Made.{IsMade}
 
 pub known_large : (o : Option Sent) (index : ℕ) (known : Bool) (reading : ℕ) (judged : Option Judgement) (s : PoolState)

@@ -1,14 +1,14 @@
 -- What an event is refused by.
 use Rattle.std.proofs.Common.{◌≡◌, ◌≢◌, inl, inr, Some, None, Result, Ok, Err, IfErr, OnOk, refl, ap, sym, subst}
-use Rattle.pool_event.specs.declared.answer.Stepped.{Stepped}
-use Rattle.pool_event.specs.declared.event.Event.{Event}
-use Rattle.pool_refusals.specs.Refusals.{IsRefusal}
+use Rattle.pool_parts.specs.declared.answer.Stepped.{Stepped}
+use Rattle.pool_parts.specs.declared.event.Event.{Event}
+use Rattle.pool_rules.specs.Refusals.{IsRefusal}
 use Rattle.pool_state.specs.declared.state.PoolState.{PoolState}
 use Rattle.pool_tables.specs.declared.refusal.StepError.{StepError}
 use Rattle.pool_tables.specs.declared.refusal.StepError.TheVariants as error
-use Rattle.pool_moves.specs.Deeds.{at_rest}
-use Rattle.pool_moves.specs.Happens.{Reacts}
-use Rattle.pool_moves.specs.Limits.{IsLimit, IsTooLarge}
+use Rattle.pool_rules.specs.Deeds.{at_rest}
+use Rattle.pool_rules.specs.Happens.{Reacts}
+use Rattle.pool_rules.specs.Limits.{IsLimit, IsTooLarge}
 use Rattle.pool_core.specs.Refused.{IsRefused}
 use Rattle.pool_core.proofs.Causes.{refusal_other}
 use Rattle.pool_core.proofs.Resting.{rest_refusal}

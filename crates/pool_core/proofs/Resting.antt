@@ -4,14 +4,14 @@ use Rattle.ad_eval.specs.Judgement.{Judgement, Mismatch}
 use Rattle.ad_tree.specs.Ad.{Attributes}
 use Rattle.claim_id.specs.declared.numbers.ClaimId.{ClaimId}
 use Rattle.claim_id.specs.declared.numbers.SlotId.{SlotId}
-use Rattle.pool_event.specs.declared.event.Event.{Event}
-use Rattle.pool_event.specs.declared.event.Event.TheVariants as event
+use Rattle.pool_parts.specs.declared.event.Event.{Event}
+use Rattle.pool_parts.specs.declared.event.Event.TheVariants as event
 use Rattle.pool_mail.specs.declared.mail.Mail.{Mail}
 use Rattle.pool_mail.specs.declared.matching.Match.{Match}
 use Rattle.pool_outer.specs.declared.gate.Daemon.{Daemon}
 use Rattle.pool_outer.specs.declared.gate.Daemon.TheVariants.{Schedd, Startd, Matchmaker}
-use Rattle.pool_refusals.specs.Judging.{IsFairOf, IsLive, IsSomeLive, judged_in}
-use Rattle.pool_refusals.specs.Refusals.{IsAdRefusal, IsAdRefusalBy, IsEventRefusal, IsRefusal, Refusal, Then, closed_refusal, events_refusal, first_of, matchmaker_refusal, receive_refusal}
+use Rattle.pool_rules.specs.Judging.{IsFairOf, IsLive, IsSomeLive, judged_in}
+use Rattle.pool_rules.specs.Refusals.{IsAdRefusal, IsAdRefusalBy, IsEventRefusal, IsRefusal, Refusal, Then, closed_refusal, events_refusal, first_of, matchmaker_refusal, receive_refusal}
 use Rattle.pool_state.specs.declared.opening.Opening.{Opening}
 use Rattle.pool_state.specs.declared.state.PoolState.{PoolState}
 use Rattle.pool_state.specs.Openings.{IsOpenedBy}
@@ -19,8 +19,8 @@ use Rattle.pool_state.specs.PoolViews.{IsViewOf}
 use Rattle.pool_state.specs.Readings.{IsDue}
 use Rattle.pool_tables.specs.declared.sent.Sent.{Sent}
 use Rattle.pool_view.specs.declared.view.View.{View}
-use Rattle.pool_moves.specs.Deeds.{at_rest}
-use Rattle.pool_moves.specs.Happens.{AreLive}
+use Rattle.pool_rules.specs.Deeds.{at_rest}
+use Rattle.pool_rules.specs.Happens.{AreLive}
 
 then_also : (x : Refusal) (P Q : Refusal → Type 0) (r : Refusal) → (P r → Q r) → Then x P r → Then x Q r
 then_also None P Q r f h = f h

@@ -1,13 +1,13 @@
 -- What has too many bytes of ads where something else has.
 use Rattle.std.proofs.Common.{◌≡◌, ℕ, ◌<◌, refl, sym, subst}
-use Rattle.pool_event.specs.declared.answer.Answer.TheVariants as answer
-use Rattle.pool_event.specs.declared.answer.Stepped.{Stepped}
-use Rattle.pool_event.specs.declared.event.Event.{Event}
-use Rattle.pool_limits.specs.declared.size.TheConstants.{MAX_BYTES}
+use Rattle.pool_parts.specs.declared.answer.Answer.TheVariants as answer
+use Rattle.pool_parts.specs.declared.answer.Stepped.{Stepped}
+use Rattle.pool_parts.specs.declared.event.Event.{Event}
+use Rattle.pool_parts.specs.declared.size.TheConstants.{MAX_BYTES}
 use Rattle.pool_state.specs.declared.state.PoolState.{PoolState}
-use Rattle.pool_moves.specs.Answers.{answered}
-use Rattle.pool_moves.specs.Happens.{Happens, Reacts, counts_brought, counts_event}
-use Rattle.pool_moves.specs.Limits.{IsTooLarge}
+use Rattle.pool_rules.specs.Answers.{answered}
+use Rattle.pool_rules.specs.Happens.{Happens, Reacts, counts_brought, counts_event}
+use Rattle.pool_rules.specs.Limits.{IsTooLarge}
 use Rattle.pool_core.specs.Made.{IsMade}
 
 -- what is known to come

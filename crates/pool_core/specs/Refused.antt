@@ -1,9 +1,9 @@
 -- Why an event is refused.
 use Rattle.std.specs.Prelude.{Some, None}
-use Rattle.pool_event.specs.declared.event.Event.{Event}
-use Rattle.pool_moves.specs.Happens.{Reacts}
-use Rattle.pool_moves.specs.Limits.{IsTooLarge}
-use Rattle.pool_refusals.specs.Refusals.{IsRefusal}
+use Rattle.pool_parts.specs.declared.event.Event.{Event}
+use Rattle.pool_rules.specs.Happens.{Reacts}
+use Rattle.pool_rules.specs.Limits.{IsTooLarge}
+use Rattle.pool_rules.specs.Refusals.{IsRefusal}
 use Rattle.pool_state.specs.declared.state.PoolState.{PoolState}
 use Rattle.pool_tables.specs.declared.refusal.StepError.{StepError}
 use Rattle.pool_tables.specs.declared.refusal.StepError.TheVariants as error

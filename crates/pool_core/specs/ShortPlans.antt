@@ -1,8 +1,8 @@
 -- That the numbers of an unfinished plan are short.
 use Rattle.std.specs.Prelude.{◌≡◌, List, IfSome}
-use Rattle.loggable.specs.Loggable.{HasShortNumbers}
-use Rattle.pool_pending.specs.declared.pending.Unfinished.{Unfinished}
-use Rattle.pool_pending.specs.declared.pending.Unfinished.TheVariants.{Submission, Plan}
+use Rattle.pool_parts.specs.Loggable.{HasShortNumbers}
+use Rattle.pool_parts.specs.declared.pending.Unfinished.{Unfinished}
+use Rattle.pool_parts.specs.declared.pending.Unfinished.TheVariants.{Submission, Plan}
 use Rattle.pool_state.specs.declared.state.PoolState.{PoolState}
 use Rattle.queue_tx.specs.Operations.{Operation}
 use Rattle.schedd_plan.specs.Plans.{plan_ops}

@@ -3,17 +3,17 @@
 ghost use Rattle.std.specs.Prelude.{◌≡◌, ◌+◌, ◌<◌, ◌^◌, slice_get, Err, IfErr, IfOk, IfSome, IsSomeAnd, OnErr, OnOk};
 ghost use Rattle.std.specs.Option.{option_copied};
 ghost use Rattle.pool_core.specs.Made.{IsMade};
-ghost use Rattle.pool_moves.specs.Deeds.{at_rest, receives};
-ghost use Rattle.pool_moves.specs.Happens.{ComesBack, IsReopened, Receives, Ticks, crashes, is_known};
-ghost use Rattle.pool_moves.specs.Limits.{IsLimit, IsTooLarge, IsWithin};
+ghost use Rattle.pool_rules.specs.Deeds.{at_rest, receives};
+ghost use Rattle.pool_rules.specs.Happens.{ComesBack, IsReopened, Receives, Ticks, crashes, is_known};
+ghost use Rattle.pool_rules.specs.Limits.{IsLimit, IsTooLarge, IsWithin};
 ghost use Rattle.pool_state.specs.Readings.{boot_of};
 ghost use Rattle.pool_tables.specs.DaemonTables.{daemon_state};
 ghost use Rattle.pool_tables.specs.declared.refusal.StepError.TheVariants as error;
 
 use ad_eval::Judged;
-use pool_event::Stepped;
 use pool_mail::Mail;
 use pool_outer::Daemon;
+use pool_parts::Stepped;
 use pool_state::PoolState;
 use pool_steps::{limited, nothing_asked, reboot_startd, receive_by_startd, tick_startd};
 use pool_tables::StepError;

@@ -3,22 +3,20 @@
 ghost use Rattle.std.specs.Prelude.{◌≡◌, true, Err, IfErr, IfOk, OnErr, OnOk};
 ghost use Rattle.pool_core.specs.Made.{IsMade};
 ghost use Rattle.pool_core.specs.Pushed.{IsPushed};
-ghost use Rattle.pool_moves.specs.Deeds.{at_rest};
-ghost use Rattle.pool_moves.specs.Happens.{AreLive, ArePassed, IsSubmitted, submission_of};
-ghost use Rattle.pool_moves.specs.Limits.{IsLimit, IsTooLarge, IsWithin};
-ghost use Rattle.pool_refusals.specs.Judging.{IsLive};
+ghost use Rattle.pool_rules.specs.Deeds.{at_rest};
+ghost use Rattle.pool_rules.specs.Happens.{AreLive, ArePassed, IsSubmitted, submission_of};
+ghost use Rattle.pool_rules.specs.Limits.{IsLimit, IsTooLarge, IsWithin};
+ghost use Rattle.pool_rules.specs.Judging.{IsLive};
 ghost use Rattle.pool_tables.specs.declared.refusal.StepError.TheVariants as error;
 
 use ad_eval::Judged;
 use ad_tree::AdList;
 use ad_value::Memory;
-use pool_event::Stepped;
 use pool_mail::{Match, MatchList};
-use pool_pending::Unfinished;
-use pool_refusals::is_live;
+use pool_parts::{Stepped, Unfinished, submission_tx};
+use pool_rules::is_live;
 use pool_state::PoolState;
 use pool_steps::{Begun, limited, nothing_asked, pass_matches};
-use pool_submission::submission_tx;
 use pool_tables::StepError;
 use queue_tx::Key;
 use std::alloc::Global;

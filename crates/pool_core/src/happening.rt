@@ -3,21 +3,18 @@
 ghost use Rattle.std.specs.Prelude.{◌≡◌, ◌≢◌, ◌+◌, Err, IfErr, IfOk, None, OnErr, OnOk};
 ghost use Rattle.pool_core.specs.Refused.{IsRefused};
 ghost use Rattle.pool_core.specs.ShortPlans.{HasShortPlan};
-ghost use Rattle.pool_limits.specs.Sizes.{event_count};
-ghost use Rattle.pool_moves.specs.Deeds.{at_rest};
-ghost use Rattle.pool_moves.specs.Happens.{Happens, Reacts, counts_brought, latest_after};
-ghost use Rattle.pool_moves.specs.Limits.{IsLimit, IsTooLarge, IsWithin};
-ghost use Rattle.pool_refusals.specs.Refusals.{IsRefusal};
+ghost use Rattle.pool_parts.specs.Sizes.{event_count};
+ghost use Rattle.pool_rules.specs.Deeds.{at_rest};
+ghost use Rattle.pool_rules.specs.Happens.{Happens, Reacts, counts_brought, latest_after};
+ghost use Rattle.pool_rules.specs.Limits.{IsLimit, IsTooLarge, IsWithin};
+ghost use Rattle.pool_rules.specs.Refusals.{IsRefusal};
 ghost use Rattle.pool_tables.specs.declared.refusal.StepError.TheVariants as error;
 
 use crate::daemons::{crash, receive, reopen, tick};
 use crate::events::{close, match_all, submit};
 use ad_value::Memory;
-use loggable::go_over_numbers;
-use pool_event::{Event, Stepped};
-use pool_limits::event_size;
-use pool_pending::{Pending, Unfinished};
-use pool_refusals::refusal_of;
+use pool_parts::{Event, Pending, Stepped, Unfinished, event_size, go_over_numbers};
+use pool_rules::refusal_of;
 use pool_state::PoolState;
 use pool_steps::{end_run, give_order};
 use pool_tables::StepError;
@@ -132,7 +129,7 @@ fn add_brought(bytes: u64, event: &Event) -> Result<u64, Memory>
 }
 
 // An event happens, but for what is counted of it.
-#[tactic(auto, unfolding(pool_moves::specs::Happens::Happens))]
+#[tactic(auto, unfolding(pool_rules::specs::Happens::Happens))]
 fn happen(alloc: Global, state: &mut PoolState, event: &Event) -> Result<Stepped, StepError>
     ensures happens { IfOk result (Happens event.now (at_rest state.old) (at_rest state.new)) }
     ensures within { OnOk result (IsWithin state.new) }

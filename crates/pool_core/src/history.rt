@@ -2,7 +2,7 @@ ghost use Rattle.std.specs.Prelude.{◌≡◌, IfOk};
 
 use crate::pool::Pool;
 use ad_value::{Copied, Memory, Seq};
-use pool_event::{Event, Kept};
+use pool_parts::{Event, Kept};
 use std::alloc::Global;
 
 /// What is to go wrong with a daemon. Mails count from 0.

@@ -1,19 +1,19 @@
 ghost use Rattle.std.specs.Prelude.{◌≡◌, ◌≢◌, ◌⊎◌, ◌≤◌, ℕ, List, Option, false, true, None, Some, IfErr, IfOk, IfSome, IsErrOf, IsSome, OnErr, OnOk};
 ghost use Rattle.claim_id.specs.declared.numbers.ClaimId.{ClaimId};
-ghost use Rattle.loggable.specs.Answers.{CanAppend};
-ghost use Rattle.loggable.specs.Loggable.{IsLoggableQueue};
+ghost use Rattle.pool_parts.specs.Appends.{CanAppend};
+ghost use Rattle.pool_parts.specs.Loggable.{IsLoggableQueue};
 ghost use Rattle.pool_core.specs.KeptPools.{IsKeptPool};
 ghost use Rattle.pool_core.specs.Refused.{IsRefused};
-ghost use Rattle.pool_machines.specs.Slots.{slot_at};
-ghost use Rattle.pool_moves.specs.Deeds.{rested};
-ghost use Rattle.pool_moves.specs.Given.{IsGiven};
-ghost use Rattle.pool_moves.specs.Happens.{Reacts};
-ghost use Rattle.pool_moves.specs.Limits.{IsWithin};
-ghost use Rattle.pool_past.specs.Clusters.{IsNextCluster};
+ghost use Rattle.pool_shown.specs.Slots.{slot_at};
+ghost use Rattle.pool_rules.specs.Deeds.{rested};
+ghost use Rattle.pool_rules.specs.Given.{IsGiven};
+ghost use Rattle.pool_rules.specs.Happens.{Reacts};
+ghost use Rattle.pool_rules.specs.Limits.{IsWithin};
+ghost use Rattle.pool_parts.specs.Clusters.{IsNextCluster};
 ghost use Rattle.pool_safety.specs.Counted.{CountsBytes, HasFewJobs, held_count};
 ghost use Rattle.pool_safety.specs.Histories.{HasView, LaunchesRun, MovesView};
 ghost use Rattle.pool_safety.specs.Unfinished.{CanFinish};
-ghost use Rattle.pool_refusals.specs.Refusals.{IsRefusal};
+ghost use Rattle.pool_rules.specs.Refusals.{IsRefusal};
 ghost use Rattle.pool_state.specs.Openings.{CanOpen, IsJobCount, IsOpenedBy};
 ghost use Rattle.pool_state.specs.PoolViews.{IsViewOf};
 ghost use Rattle.pool_state.specs.Readings.{AreWanted, IsCheckDue, IsDue, IsLook, ad_of_slot, boot_of, hangs_on_slot, is_schedd_up};
@@ -33,9 +33,9 @@ use crate::happening;
 use ad_tree::Ad;
 use ad_value::{Copied, Memory};
 use claim_id::{JobId, SlotId};
-use pool_event::{Event, Look, Stepped};
 use pool_mail::{Mail, RequestList};
 use pool_outer::Daemon;
+use pool_parts::{Event, Look, Stepped};
 use pool_state::{Opening, PoolState};
 use pool_tables::{MailError, Mails, StepError};
 use pool_view::View;
@@ -59,7 +59,7 @@ impl Model for Pool {
     ghost use Rattle.std.specs.Coded.{codes};
     ghost use Rattle.pool_state.specs.contracts.state.PoolState as of_state;
     ghost use Rattle.pool_state.specs.declared.state.PoolState.{PoolState};
-    ghost use Rattle.pool_moves.specs.Deeds.{at_rest};
+    ghost use Rattle.pool_rules.specs.Deeds.{at_rest};
 
     ghost Value = { PoolState };
 

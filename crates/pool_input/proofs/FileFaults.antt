@@ -8,9 +8,9 @@ use Rattle.pool_settings.specs.declared.error.ConfigError.{ConfigError}
 use Rattle.pool_settings.specs.declared.error.ConfigError.TheVariants as config
 use Rattle.pool_settings.specs.Errors.{UnlessMemory}
 use Rattle.pool_config.specs.Lines.{IsConfiguration}
-use Rattle.submit_job.specs.declared.error.SubmitError.{SubmitError}
-use Rattle.submit_job.specs.declared.error.SubmitError.TheVariants as submit
-use Rattle.submit_job.specs.Errors.{UnlessMemory as UnlessNoMemory}
+use Rattle.submit_file.specs.declared.error.SubmitError.{SubmitError}
+use Rattle.submit_file.specs.declared.error.SubmitError.TheVariants as submit
+use Rattle.submit_file.specs.Errors.{UnlessMemory as UnlessNoMemory}
 use Rattle.submit_file.specs.SubmittedJobs.{SubmittedJobs}
 use Rattle.thin_pool.specs.PoolValue.{PoolValue}
 use Rattle.thin_pool.specs.Reactions.{next_cluster}

@@ -3,8 +3,8 @@ use Rattle.std.specs.Prelude.{◌≡◌, ◌⊎◌, ℕ, List}
 use Rattle.pool_outer.specs.declared.limit.Which.TheVariants as which
 use Rattle.pool_settings.specs.declared.error.ConfigError.{ConfigError}
 use Rattle.pool_settings.specs.declared.error.ConfigError.TheVariants as config
-use Rattle.submit_job.specs.declared.error.SubmitError.{SubmitError}
-use Rattle.submit_job.specs.declared.error.SubmitError.TheVariants as submit
+use Rattle.submit_file.specs.declared.error.SubmitError.{SubmitError}
+use Rattle.submit_file.specs.declared.error.SubmitError.TheVariants as submit
 use Rattle.pool_input.specs.declared.fault.Fault.{Fault}
 use Rattle.pool_input.specs.declared.fault.Fault.TheVariants.{Refused, Limit, Disk, Memory}
 use Rattle.pool_input.specs.declared.files.ReadError.{ReadError}

@@ -4,7 +4,7 @@ use Rattle.std.specs.Str.{IsUtf8}
 use Rattle.ad_tree.specs.Ad.{Attributes}
 use Rattle.pool_outer.specs.Files.{Contents}
 use Rattle.pool_outer.specs.declared.limit.Which.TheVariants as which
-use Rattle.submit_job.specs.declared.error.SubmitError.{SubmitError}
+use Rattle.submit_file.specs.declared.error.SubmitError.{SubmitError}
 use Rattle.submit_file.specs.SubmittedJobs.{AdsResult, SubmittedJobs}
 use Rattle.thin_pool.specs.declared.answer.Kept.TheVariants as kept
 use Rattle.thin_pool.specs.declared.answer.StepError.TheVariants.{Jobs}

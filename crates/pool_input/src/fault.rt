@@ -8,7 +8,7 @@ use ad_value::{Memory, Text};
 use pool_outer::Which;
 use pool_settings::ConfigError;
 use std::alloc::Global;
-use submit_job::SubmitError;
+use submit_file::SubmitError;
 
 /// Why a file can't be had.
 #[derive(Clone, Copy, Debug, PartialEq, Eq)]

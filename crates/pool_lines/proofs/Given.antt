@@ -2,9 +2,9 @@
 use Rattle.std.proofs.Common.{◌≡◌, ℕ, List, [], ◌∷◌, ◌++◌, Some, slice_get, ◌∙◌, ap}
 use Rattle.std.specs.Prelude.{Result, Ok, Err, IfOk}
 use Rattle.cases.specs.declared.error.CaseError.{CaseError}
-use Rattle.pool_event.specs.declared.event.Event.{Event}
+use Rattle.pool_parts.specs.declared.event.Event.{Event}
 use Rattle.pool_mail.specs.declared.end.Ending.{Ending}
-use Rattle.pool_moves.specs.Given.{AreOfMachine, IsOfMachine}
+use Rattle.pool_rules.specs.Given.{AreOfMachine, IsOfMachine}
 use Rattle.pool_state.specs.declared.state.PoolState.{PoolState}
 use Rattle.receipt_roll.specs.Values.{ReceiptValue}
 use Rattle.pool_lines.specs.Marks.{HasMarks, IsGivenBy, IsGivenToAny, RollMarks}

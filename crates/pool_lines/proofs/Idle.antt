@@ -4,7 +4,7 @@ use Rattle.std.specs.List.{All}
 use Rattle.std.proofs.lemmas.List.Elements.{All-head, All-tail}
 use Rattle.ad_tree.specs.Ad.{Attributes}
 use Rattle.pool_lines.specs.Marks.{IsIdle}
-use Rattle.pool_moves.specs.Given.{AreIdle}
+use Rattle.pool_rules.specs.Given.{AreIdle}
 
 pub all_idle : (jobs : List Attributes) → All IsIdle jobs → AreIdle jobs
 all_idle [] all = tt

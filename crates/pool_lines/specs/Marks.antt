@@ -1,8 +1,8 @@
 -- The marks of the rolls by whose receipts events come.
 use Rattle.std.specs.Prelude.{◌≡◌, List, [], ◌∷◌, Option, Some, IfSome}
 use Rattle.ad_tree.specs.Ad.{AreDistinct, Attributes}
-use Rattle.pool_event.specs.declared.event.Event.{Event}
-use Rattle.pool_moves.specs.Given.{IsGiven}
+use Rattle.pool_parts.specs.declared.event.Event.{Event}
+use Rattle.pool_rules.specs.Given.{IsGiven}
 use Rattle.pool_state.specs.declared.state.PoolState.{PoolState}
 use Rattle.queue_tx.specs.declared.kind.JobKind.TheVariants.{Idle}
 use Rattle.queue_tx.specs.Kinds.{kind_of}

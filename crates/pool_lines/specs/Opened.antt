@@ -1,7 +1,7 @@
 -- What is tested of a pool that is to open.
 use Rattle.std.specs.Prelude.{◌≡◌, ℕ, ◌<◌, ◌≤◌, length, IsSomeAnd}
-use Rattle.pool_limits.specs.declared.size.TheConstants.{MAX_BYTES}
-use Rattle.pool_limits.specs.Sizes.{queue_count}
+use Rattle.pool_parts.specs.declared.size.TheConstants.{MAX_BYTES}
+use Rattle.pool_parts.specs.Sizes.{queue_count}
 use Rattle.pool_state.specs.declared.opening.Opening.{Opening}
 use Rattle.pool_state.specs.declared.opening.TheConstants.{LAST_POOL_BOOT, MAX_MACHINES, MAX_SLOTS}
 use Rattle.pool_state.specs.Openings.{machines_of}

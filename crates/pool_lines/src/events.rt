@@ -14,7 +14,7 @@ use ad_names::job::PROC_ID;
 use ad_tree::{Ad, AdList, Expr, SetError};
 use ad_value::{Copied, Memory, Value};
 use cases::{Case, CaseError};
-use pool_event::Event;
+use pool_parts::Event;
 use queue_tx::{JobKind, Tx, kind_of};
 use std::alloc::Global;
 

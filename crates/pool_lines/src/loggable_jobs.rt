@@ -3,7 +3,7 @@
 ghost use Rattle.std.specs.Prelude.{◌≡◌, IfSome, IsTrue, Some, slice_get};
 ghost use Rattle.ad_tree.specs.Tree.{tree};
 ghost use Rattle.claim_id.specs.declared.numbers.JobId.{JobId};
-ghost use Rattle.loggable.specs.Loggable.{AreLoggableJobs, IsLoggableJob};
+ghost use Rattle.pool_parts.specs.Loggable.{AreLoggableJobs, IsLoggableJob};
 ghost use Rattle.pool_lines.specs.Logged.{IsPrintableAttribute};
 ghost use Rattle.queue_tx.specs.declared.key.Key.TheVariants.{Proc};
 ghost use Rattle.queue_tx.specs.Printable.{IsPrintableAd, IsPrintableTree};

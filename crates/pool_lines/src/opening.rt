@@ -7,7 +7,7 @@ ghost use Rattle.queue_tx.specs.Printable.{HasPrintableKeys};
 
 use crate::keys::has_printable_keys;
 use ad_value::Memory;
-use pool_limits::{MAX_BYTES, queue_size};
+use pool_parts::{MAX_BYTES, queue_size};
 use pool_state::{
     LAST_POOL_BOOT, MAX_JOBS, MAX_MACHINES, MAX_SLOTS, Opening, count_jobs, count_machines,
 };

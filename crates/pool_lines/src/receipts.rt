@@ -2,16 +2,16 @@
 
 ghost use Rattle.std.specs.Prelude.{◌≡◌, IfOk, IfSome, OnOk, Some, slice_get};
 ghost use Rattle.pool_lines.specs.Marks.{HasMarks, IsGivenBy, IsMarked};
-ghost use Rattle.pool_moves.specs.Given.{AreOfDaemon, AreOfMachine};
+ghost use Rattle.pool_rules.specs.Given.{AreOfDaemon, AreOfMachine};
 ghost use Rattle.pool_state.specs.declared.state.PoolState.{PoolState};
 
 use crate::fields::Fields;
 use crate::rolls::Rolls;
 use ad_value::Memory;
 use cases::CaseError;
-use pool_event::{EndingReceipts, Event};
 use pool_mail::Ending;
 use pool_outer::Daemon;
+use pool_parts::{EndingReceipts, Event};
 use queue_record::{LogEntry, RecordError, read_line};
 use queue_tx::Tx;
 use receipt_roll::Receipt;

@@ -5,17 +5,17 @@ use Rattle.claim_id.specs.declared.numbers.ClaimId.{ClaimId}
 use Rattle.claim_id.specs.declared.numbers.JobId.{JobId}
 use Rattle.claim_id.specs.declared.order.Verb.{Verb}
 use Rattle.claim_id.specs.declared.order.Verb.TheVariants as verb
-use Rattle.pool_event.specs.declared.answer.Stepped.{Stepped}
-use Rattle.pool_event.specs.declared.event.Event.{Event}
-use Rattle.pool_event.specs.declared.event.Event.TheVariants as event
-use Rattle.pool_limits.specs.Sizes.{mail_count, mails_count, queue_count}
+use Rattle.pool_parts.specs.declared.answer.Stepped.{Stepped}
+use Rattle.pool_parts.specs.declared.event.Event.{Event}
+use Rattle.pool_parts.specs.declared.event.Event.TheVariants as event
+use Rattle.pool_parts.specs.Sizes.{mail_count, mails_count, queue_count}
 use Rattle.pool_mail.specs.declared.mail.Mail.{Mail}
 use Rattle.pool_mail.specs.declared.matching.Match.{Match}
 use Rattle.pool_outer.specs.declared.gate.Daemon.{Daemon}
 use Rattle.pool_outer.specs.declared.gate.Daemon.TheVariants.{Schedd, Startd, Matchmaker}
-use Rattle.pool_pending.specs.declared.pending.Pending.{Pending}
-use Rattle.pool_pending.specs.declared.pending.Unfinished.{Unfinished}
-use Rattle.pool_pending.specs.declared.pending.Unfinished.TheVariants.{Submission, Plan}
+use Rattle.pool_parts.specs.declared.pending.Pending.{Pending}
+use Rattle.pool_parts.specs.declared.pending.Unfinished.{Unfinished}
+use Rattle.pool_parts.specs.declared.pending.Unfinished.TheVariants.{Submission, Plan}
 use Rattle.pool_protocol.specs.Protocol.{Protocol}
 use Rattle.pool_state.specs.Openings.{IsJobCount, IsOpenedBy}
 use Rattle.pool_state.specs.declared.opening.Opening.{Opening}
@@ -31,12 +31,12 @@ use Rattle.schedd_state.specs.Reopening.{IsReader}
 use Rattle.schedd_core.specs.Rows.{after_mail as schedd_after}
 use Rattle.schedd_state.specs.Schedds.{After as ScheddAfter}
 use Rattle.startd_core.specs.Startds.{After, StartdValue, after_end, after_mail, after_reboot, after_tick}
-use Rattle.pool_moves.specs.Deeds.{ordered_by, posted, receives, schedd_acts, startd_acts}
-use Rattle.pool_moves.specs.Happens.{ComesBack, Happens, Reacts, Receives, Ticks, counts_brought, crashes, is_known}
-use Rattle.pool_moves.specs.Schedds.{after_receipt_of}
-use Rattle.pool_moves.specs.Logging.{IsBackWith, IsLogged, Leaver, ScheddIsBack, after_unfinished, jobs_after, leaver_of}
-use Rattle.pool_moves.specs.Masters.{gives, mails_of_matches, passes}
-use Rattle.pool_moves.specs.Startds.{IsReceivedStep, IsStartdStep, ends_after}
+use Rattle.pool_rules.specs.Deeds.{ordered_by, posted, receives, schedd_acts, startd_acts}
+use Rattle.pool_rules.specs.Happens.{ComesBack, Happens, Reacts, Receives, Ticks, counts_brought, crashes, is_known}
+use Rattle.pool_rules.specs.Schedds.{after_receipt_of}
+use Rattle.pool_rules.specs.Logging.{IsBackWith, IsLogged, Leaver, ScheddIsBack, after_unfinished, jobs_after, leaver_of}
+use Rattle.pool_rules.specs.Masters.{gives, mails_of_matches, passes}
+use Rattle.pool_rules.specs.Startds.{IsReceivedStep, IsStartdStep, ends_after}
 use Rattle.pool_safety.specs.Counted.{CountsBytes, IsCounted, held_count, sent_count}
 use Rattle.pool_safety.specs.Kept.{IsKept, IsPendingTx, IsTxOf}
 use Rattle.pool_safety.specs.Parts.{awaited_by, awaited_of, mail_of}

@@ -4,16 +4,16 @@ use Rattle.ad_eval.specs.Judgement.{Judgement}
 use Rattle.claim_id.specs.declared.numbers.ClaimId.{ClaimId}
 use Rattle.claim_id.specs.declared.numbers.JobId.{JobId}
 use Rattle.claim_id.specs.declared.order.Verb.{Verb}
-use Rattle.pool_event.specs.declared.answer.Stepped.{Stepped}
-use Rattle.pool_event.specs.declared.event.Event.{Event}
-use Rattle.pool_event.specs.declared.event.Event.TheVariants as event
+use Rattle.pool_parts.specs.declared.answer.Stepped.{Stepped}
+use Rattle.pool_parts.specs.declared.event.Event.{Event}
+use Rattle.pool_parts.specs.declared.event.Event.TheVariants as event
 use Rattle.pool_outer.specs.declared.gate.Daemon.{Daemon}
 use Rattle.pool_outer.specs.declared.gate.Daemon.TheVariants.{Schedd, Startd, Matchmaker}
-use Rattle.pool_pending.specs.Plans.{leaving_job}
-use Rattle.pool_pending.specs.declared.pending.Pending.{Pending}
-use Rattle.pool_pending.specs.declared.pending.Unfinished.{Unfinished}
-use Rattle.pool_pending.specs.declared.pending.Unfinished.TheVariants.{Submission, Plan}
-use Rattle.pool_refusals.specs.Refusals.{IsRefusal, is_over, jobs_refusal, schedd_refusal, submit_refusal}
+use Rattle.pool_parts.specs.Plans.{leaving_job}
+use Rattle.pool_parts.specs.declared.pending.Pending.{Pending}
+use Rattle.pool_parts.specs.declared.pending.Unfinished.{Unfinished}
+use Rattle.pool_parts.specs.declared.pending.Unfinished.TheVariants.{Submission, Plan}
+use Rattle.pool_rules.specs.Refusals.{IsRefusal, is_over, jobs_refusal, schedd_refusal, submit_refusal}
 use Rattle.pool_state.specs.Openings.{CanOpen, IsOpenedBy}
 use Rattle.pool_state.specs.declared.opening.Opening.{Opening}
 use Rattle.pool_state.specs.declared.state.PoolState.{PoolState}
@@ -26,11 +26,11 @@ use Rattle.queue_tx.specs.Queues.{KeyedAds}
 use Rattle.schedd_state.specs.Reopening.{IsReader}
 use Rattle.schedd_plan.specs.declared.plan.JobPlan.{JobPlan}
 use Rattle.startd_core.specs.Startds.{After, StartdValue, after_end, after_mail, after_reboot, after_tick}
-use Rattle.pool_moves.specs.Answers.{pending_by}
-use Rattle.pool_moves.specs.Happens.{ComesBack, Happens, Reacts, Receives, Ticks, counts_brought, crashes}
-use Rattle.pool_moves.specs.Logging.{IsBackWith, IsLogged, Leaver, ScheddIsBack, after_unfinished, jobs_after, jobs_left_by, leaver_of}
-use Rattle.pool_moves.specs.Masters.{gives}
-use Rattle.pool_moves.specs.Startds.{IsReceivedStep, IsStartdStep, ends_after}
+use Rattle.pool_rules.specs.Answers.{pending_by}
+use Rattle.pool_rules.specs.Happens.{ComesBack, Happens, Reacts, Receives, Ticks, counts_brought, crashes}
+use Rattle.pool_rules.specs.Logging.{IsBackWith, IsLogged, Leaver, ScheddIsBack, after_unfinished, jobs_after, jobs_left_by, leaver_of}
+use Rattle.pool_rules.specs.Masters.{gives}
+use Rattle.pool_rules.specs.Startds.{IsReceivedStep, IsStartdStep, ends_after}
 use Rattle.pool_safety.specs.Counted.{HasFewJobs, jobs_then}
 use Rattle.pool_safety.specs.Histories.{IsHistory, LeadsTo, Step}
 use Rattle.pool_safety.proofs.JobLists.{one_count}

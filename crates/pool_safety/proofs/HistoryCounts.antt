@@ -1,7 +1,7 @@
 -- What a pool of a history counts.
 use Rattle.std.proofs.Common.{◌≡◌, ℕ, ◌+◌, List, [], ◌∷◌, Option, ap, sym, subst, arith}
 use Rattle.claim_id.specs.declared.numbers.ClaimId.{ClaimId}
-use Rattle.pool_limits.specs.Sizes.{queue_count}
+use Rattle.pool_parts.specs.Sizes.{queue_count}
 use Rattle.pool_protocol.specs.Protocol.{Protocol}
 use Rattle.pool_protocol.specs.ProtocolMove.{protocol_after_all}
 use Rattle.pool_state.specs.declared.opening.Opening.{Opening}
@@ -30,7 +30,7 @@ module _ (read : List ℕ → Option ClaimId) (reads : IsReader read) where
       let rest_brought = leads_brought (protocol_after_all p on.moves) new t hs _ on.kept (event_few read reads p s new h.event h.answer kept few accepts.reacts) (step_brought accepts.reacts) rest in
       record { counted = rest_brought.counted; bytes = (let bytes = rest_brought.bytes in omega (arith, bytes)) }
     where
-      step_brought : Rattle.pool_moves.specs.Happens.Reacts s h.event h.answer new → Brought new (more + Rattle.pool_limits.specs.Sizes.event_count h.event)
+      step_brought : Rattle.pool_rules.specs.Happens.Reacts s h.event h.answer new → Brought new (more + Rattle.pool_parts.specs.Sizes.event_count h.event)
       step_brought reacts = record {
         counted = event_counted read reads p s new h.event h.answer kept brought.counted reacts;
         bytes = (let bytes = brought.bytes in let on = event_counts read reads p s new h.event h.answer kept brought.counted reacts in omega (arith, bytes, on));

@@ -2,17 +2,17 @@
 use Rattle.std.proofs.Common.{◌≡◌, ℕ, List, Option, Some, IsSomeAnd, IfSome, sym, subst}
 use Rattle.claim_id.specs.declared.numbers.ClaimId.{ClaimId}
 use Rattle.claim_id.specs.declared.numbers.JobId.{JobId}
-use Rattle.pool_event.specs.declared.answer.Stepped.{Stepped}
-use Rattle.pool_event.specs.declared.event.Event.TheVariants as event
+use Rattle.pool_parts.specs.declared.answer.Stepped.{Stepped}
+use Rattle.pool_parts.specs.declared.event.Event.TheVariants as event
 use Rattle.pool_links.proofs.Kept.{in_second}
 use Rattle.pool_links.proofs.Viewing.{acked_known, left_rightly}
 use Rattle.pool_links.specs.Shown.{IsKnown, LeftRightly}
-use Rattle.pool_moves.specs.Happens.{Happens, Reacts, counts_brought}
-use Rattle.pool_moves.specs.Logging.{IsLogged, Leaver, after_unfinished, cluster_jobs, leaver_of}
+use Rattle.pool_rules.specs.Happens.{Happens, Reacts, counts_brought}
+use Rattle.pool_rules.specs.Logging.{IsLogged, Leaver, after_unfinished, cluster_jobs, leaver_of}
 use Rattle.pool_safety.specs.Parts.{finished_in, parts_of}
-use Rattle.pool_pending.specs.declared.pending.Pending.{Pending}
-use Rattle.pool_pending.specs.declared.pending.Unfinished.{Unfinished}
-use Rattle.pool_pending.specs.declared.pending.Unfinished.TheVariants.{Submission}
+use Rattle.pool_parts.specs.declared.pending.Pending.{Pending}
+use Rattle.pool_parts.specs.declared.pending.Unfinished.{Unfinished}
+use Rattle.pool_parts.specs.declared.pending.Unfinished.TheVariants.{Submission}
 use Rattle.pool_state.specs.declared.opening.Opening.{Opening}
 use Rattle.pool_state.specs.declared.state.PoolState.{PoolState}
 use Rattle.pool_view.specs.AbstractPool.{IsIn}

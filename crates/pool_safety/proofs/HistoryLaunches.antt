@@ -3,19 +3,19 @@ use Rattle.std.proofs.Common.{◌≡◌, ℕ, max, List, [], ◌∷◌, Option, 
 use Rattle.std.proofs.lemmas.Option.{none-some}
 use Rattle.claim_id.specs.declared.numbers.ClaimId.{ClaimId}
 use Rattle.claim_id.specs.declared.numbers.RunNo.{RunNo}
-use Rattle.pool_event.specs.declared.answer.Answer.{Answer}
-use Rattle.pool_event.specs.declared.answer.Answer.TheVariants as answer
-use Rattle.pool_event.specs.declared.answer.Stepped.{Stepped}
-use Rattle.pool_event.specs.declared.event.Event.{Event}
-use Rattle.pool_event.specs.declared.event.Event.TheVariants as event
+use Rattle.pool_parts.specs.declared.answer.Answer.{Answer}
+use Rattle.pool_parts.specs.declared.answer.Answer.TheVariants as answer
+use Rattle.pool_parts.specs.declared.answer.Stepped.{Stepped}
+use Rattle.pool_parts.specs.declared.event.Event.{Event}
+use Rattle.pool_parts.specs.declared.event.Event.TheVariants as event
 use Rattle.pool_links.specs.Launched.{IsPermitOf}
 use Rattle.pool_links.specs.Shown.{ShowsPool}
-use Rattle.pool_moves.specs.Answers.{answer_of_startd, answer_with, pending_by}
-use Rattle.pool_moves.specs.Happens.{Happens, counts_brought, counts_event}
+use Rattle.pool_rules.specs.Answers.{answer_of_startd, answer_with, pending_by}
+use Rattle.pool_rules.specs.Happens.{Happens, counts_brought, counts_event}
 use Rattle.pool_safety.specs.Parts.{parts_of}
 use Rattle.pool_outer.specs.declared.gate.Daemon.TheVariants.{Schedd, Startd, Matchmaker}
 use Rattle.pool_protocol.specs.Protocol.{Protocol}
-use Rattle.pool_refusals.specs.Refusals.{IsEventRefusal}
+use Rattle.pool_rules.specs.Refusals.{IsEventRefusal}
 use Rattle.pool_state.specs.declared.opening.Opening.{Opening}
 use Rattle.pool_state.specs.declared.state.PoolState.{PoolState}
 use Rattle.pool_view.specs.AbstractPool.{AbstractPool}

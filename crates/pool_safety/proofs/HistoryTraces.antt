@@ -7,24 +7,24 @@ use Rattle.ad_tree.specs.Ad.{Attributes}
 use Rattle.claim_id.specs.declared.numbers.ClaimId.{ClaimId}
 use Rattle.claim_id.specs.declared.numbers.JobId.{JobId}
 use Rattle.claim_id.specs.declared.order.Verb.{Verb}
-use Rattle.pool_event.specs.declared.answer.Stepped.{Stepped}
-use Rattle.pool_event.specs.declared.event.Event.{Event}
-use Rattle.pool_event.specs.declared.event.Event.TheVariants as event
+use Rattle.pool_parts.specs.declared.answer.Stepped.{Stepped}
+use Rattle.pool_parts.specs.declared.event.Event.{Event}
+use Rattle.pool_parts.specs.declared.event.Event.TheVariants as event
 use Rattle.pool_links.proofs.Kept.{in_both, in_first}
 use Rattle.pool_mail.specs.declared.mail.Mail.{Mail}
 use Rattle.pool_mail.specs.declared.mail.Mail.TheVariants as mail
-use Rattle.pool_moves.specs.Deeds.{ordered_by}
-use Rattle.pool_moves.specs.Happens.{Happens, ComesBack, Receives, Ticks, is_known}
-use Rattle.pool_moves.specs.Logging.{IsBackWith, IsLogged, Leaver, ScheddIsBack, after_unfinished, leaver_of}
-use Rattle.pool_moves.specs.Masters.{gives}
-use Rattle.pool_moves.specs.Schedds.{jobs_in}
-use Rattle.pool_moves.specs.Startds.{IsReceivedStep, IsStartdStep}
+use Rattle.pool_rules.specs.Deeds.{ordered_by}
+use Rattle.pool_rules.specs.Happens.{Happens, ComesBack, Receives, Ticks, is_known}
+use Rattle.pool_rules.specs.Logging.{IsBackWith, IsLogged, Leaver, ScheddIsBack, after_unfinished, leaver_of}
+use Rattle.pool_rules.specs.Masters.{gives}
+use Rattle.pool_rules.specs.Schedds.{jobs_in}
+use Rattle.pool_rules.specs.Startds.{IsReceivedStep, IsStartdStep}
 use Rattle.pool_outer.specs.declared.gate.Daemon.{Daemon}
 use Rattle.pool_outer.specs.declared.gate.Daemon.TheVariants.{Schedd, Startd, Matchmaker}
-use Rattle.pool_pending.specs.Plans.{ordered_job}
-use Rattle.pool_pending.specs.declared.pending.Pending.{Pending}
-use Rattle.pool_pending.specs.declared.pending.Unfinished.{Unfinished}
-use Rattle.pool_pending.specs.declared.pending.Unfinished.TheVariants.{Submission, Plan}
+use Rattle.pool_parts.specs.Plans.{ordered_job}
+use Rattle.pool_parts.specs.declared.pending.Pending.{Pending}
+use Rattle.pool_parts.specs.declared.pending.Unfinished.{Unfinished}
+use Rattle.pool_parts.specs.declared.pending.Unfinished.TheVariants.{Submission, Plan}
 use Rattle.pool_state.specs.declared.state.PoolState.{PoolState}
 use Rattle.pool_tables.specs.OrderTables.{is_due_for}
 use Rattle.pool_tables.specs.declared.sent.Sent.{Sent}
@@ -250,7 +250,7 @@ module _ (read : List ℕ → Option ClaimId) (reads : IsReader read) where
       (λ other there. look_removes s.schedd s.queue job other reading (in_jobs (ordered_job (after_check s.schedd s.queue job reading).step.plan) other there))
   happens_traces (event.Logged boot receipt) s new r h = of_pending _ s new (λ p. IsLogged s p new r) (λ p is. acked_more _ s new is.queue (leaver_of read s.queue p.what) p.what (is.pool read reads)) h
   happens_traces (event.Ended machine boot receipt reading) s new r h =
-      of_startd _ s new machine (λ v. IsStartdStep machine (after_end v receipt.item reading) (Rattle.pool_moves.specs.Startds.ends_after receipt.item.run v (after_end v receipt.item reading)) s new r) (λ v step. quiet _ s new _ step.pool refl refl refl) h
+      of_startd _ s new machine (λ v. IsStartdStep machine (after_end v receipt.item reading) (Rattle.pool_rules.specs.Startds.ends_after receipt.item.run v (after_end v receipt.item reading)) s new r) (λ v step. quiet _ s new _ step.pool refl refl refl) h
   happens_traces (event.Crash who) s new r h = quiet _ s new _ h.0 refl refl refl
   happens_traces (event.Reopen who kept ended reading) s new r h =
       came_back _ s h.back new r who (is_some kept) reading h.comes (ap (λ (x : PoolState). x.latest) h.pool) (ap (λ (x : PoolState). x.ordered) h.pool) (ap (λ (x : PoolState). x.acked) h.pool)

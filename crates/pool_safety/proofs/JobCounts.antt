@@ -3,9 +3,9 @@ use Rattle.std.proofs.Common.{◌≡◌, ◌⊎◌, inl, inr, ℕ, zero, suc, �
 use Rattle.std.specs.Prelude.{IsSome}
 use Rattle.ad_tree.specs.Ad.{AreDistinct, Attributes}
 use Rattle.claim_id.specs.declared.numbers.JobId.{JobId}
-use Rattle.pool_pending.specs.Plans.{leaving_job}
-use Rattle.pool_pending.specs.declared.pending.Unfinished.{Unfinished}
-use Rattle.pool_pending.specs.declared.pending.Unfinished.TheVariants.{Submission, Plan}
+use Rattle.pool_parts.specs.Plans.{leaving_job}
+use Rattle.pool_parts.specs.declared.pending.Unfinished.{Unfinished}
+use Rattle.pool_parts.specs.declared.pending.Unfinished.TheVariants.{Submission, Plan}
 use Rattle.pool_protocol.specs.Facts.{CanBeMade}
 use Rattle.pool_protocol.specs.Protocol.{AreNew, NewJob, Protocol}
 use Rattle.pool_state.specs.Openings.{IsJobCount}
@@ -30,7 +30,7 @@ use Rattle.pool_links.specs.Linked.{Awaits, AwaitsJobs, AwaitsPlan, BringsJobs, 
 use Rattle.pool_links.specs.PoolParts.{Awaited}
 use Rattle.pool_links.proofs.Kept.{in_both, in_first, in_second}
 use Rattle.pool_links.proofs.Submitting.{OneOrNone, new_was_none, one_or_none}
-use Rattle.pool_moves.specs.Logging.{cluster_jobs, jobs_after, jobs_left_by}
+use Rattle.pool_rules.specs.Logging.{cluster_jobs, jobs_after, jobs_left_by}
 use Rattle.pool_safety.specs.Kept.{IsKept, IsTxOf}
 use Rattle.pool_safety.specs.Parts.{awaited_by, awaited_of, parts_of}
 use Rattle.pool_safety.proofs.JobLists.{AreAll, AreApart, Without, apart_both, counted, listed_all, without}

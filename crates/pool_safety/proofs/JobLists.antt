@@ -9,7 +9,7 @@ use Rattle.std.specs.declared.cmp.Ordering.TheVariants.{Less, Equal, Greater}
 use Rattle.ad_tree.specs.Ad.{Attributes}
 use Rattle.claim_id.specs.declared.numbers.JobId.{JobId}
 use Rattle.ordered_map.proofs.Splits.{KeysAll, lookup_short}
-use Rattle.pool_jobs.specs.Listings.{AreJobs, is_past_job}
+use Rattle.pool_parts.specs.Listings.{AreJobs, is_past_job}
 use Rattle.pool_state.specs.Openings.{AreListed, IsJobCount}
 use Rattle.pool_view.specs.AbstractPool.{IsIn}
 use Rattle.queue_tx.specs.Jobs.{IsJobOf, kind_under}

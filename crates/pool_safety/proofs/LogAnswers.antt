@@ -5,14 +5,14 @@ use Rattle.ad_eval.specs.Judgement.{Judgement}
 use Rattle.claim_id.specs.declared.numbers.ClaimId.{ClaimId}
 use Rattle.claim_id.specs.declared.numbers.JobId.{JobId}
 use Rattle.claim_id.specs.declared.order.Verb.{Verb}
-use Rattle.pool_event.specs.declared.answer.Stepped.{Stepped}
-use Rattle.pool_event.specs.declared.event.Event.{Event}
-use Rattle.pool_event.specs.declared.event.Event.TheVariants as event
+use Rattle.pool_parts.specs.declared.answer.Stepped.{Stepped}
+use Rattle.pool_parts.specs.declared.event.Event.{Event}
+use Rattle.pool_parts.specs.declared.event.Event.TheVariants as event
 use Rattle.pool_outer.specs.declared.gate.Daemon.{Daemon}
 use Rattle.pool_outer.specs.declared.gate.Daemon.TheVariants.{Schedd, Startd, Matchmaker}
-use Rattle.pool_pending.specs.declared.pending.Pending.{Pending}
-use Rattle.pool_pending.specs.declared.pending.Unfinished.{Unfinished}
-use Rattle.pool_pending.specs.declared.pending.Unfinished.TheVariants.{Submission, Plan}
+use Rattle.pool_parts.specs.declared.pending.Pending.{Pending}
+use Rattle.pool_parts.specs.declared.pending.Unfinished.{Unfinished}
+use Rattle.pool_parts.specs.declared.pending.Unfinished.TheVariants.{Submission, Plan}
 use Rattle.pool_protocol.specs.Protocol.{Protocol}
 use Rattle.pool_state.specs.declared.state.PoolState.{PoolState}
 use Rattle.pool_tables.specs.OrderTables.{is_due_for}
@@ -20,17 +20,17 @@ use Rattle.pool_tables.specs.declared.sent.Sent.{Sent}
 use Rattle.pool_view.specs.declared.run.EndReport.{EndReport}
 use Rattle.queue_tx.specs.Queues.{KeyedAds}
 use Rattle.schedd_plan.specs.declared.plan.JobPlan.{JobPlan}
-use Rattle.pool_moves.specs.Answers.{pending_by}
+use Rattle.pool_rules.specs.Answers.{pending_by}
 use Rattle.pool_safety.specs.Few.{AreFew}
 use Rattle.pool_safety.specs.Histories.{Accepts}
 use Rattle.schedd_state.specs.Reopening.{IsReader}
 use Rattle.startd_core.specs.Startds.{After, StartdValue, after_end, after_mail, after_reboot, after_tick}
-use Rattle.pool_moves.specs.Happens.{ComesBack, Happens, Receives, Ticks, counts_brought, crashes}
-use Rattle.pool_moves.specs.Logging.{IsBackWith, IsLogged, Leaver, ScheddIsBack, after_unfinished, leaver_of}
-use Rattle.pool_moves.specs.Masters.{gives}
-use Rattle.pool_moves.specs.Startds.{IsReceivedStep, IsStartdStep, ends_after}
+use Rattle.pool_rules.specs.Happens.{ComesBack, Happens, Receives, Ticks, counts_brought, crashes}
+use Rattle.pool_rules.specs.Logging.{IsBackWith, IsLogged, Leaver, ScheddIsBack, after_unfinished, leaver_of}
+use Rattle.pool_rules.specs.Masters.{gives}
+use Rattle.pool_rules.specs.Startds.{IsReceivedStep, IsStartdStep, ends_after}
 use Rattle.pool_safety.specs.Kept.{IsKept}
-use Rattle.loggable.specs.Loggable.{CanBeLogged, IsLoggableQueue, KnowsHeader}
+use Rattle.pool_parts.specs.Loggable.{CanBeLogged, IsLoggableQueue, KnowsHeader}
 use Rattle.pool_safety.specs.Unfinished.{ArePlansShort, CanFinish, IsShort}
 use Rattle.pool_safety.proofs.LogEvents.{event_loggable}
 use Rattle.pool_safety.proofs.LogHeaders.{Knows, check_knows, mail_knows, tick_knows}

@@ -2,12 +2,12 @@
 use Rattle.std.proofs.Common.{◌≡◌, ℕ, Bool, List, [], Option, Some, None, is_some, IsSomeAnd, slice_get, refl, sym, subst}
 use Rattle.std.specs.Prelude.{IfSome}
 use Rattle.ad_eval.specs.Judgement.{Judgement}
-use Rattle.pool_event.specs.declared.answer.Stepped.{Stepped}
-use Rattle.pool_event.specs.declared.event.Event.{Event}
-use Rattle.pool_event.specs.declared.event.Event.TheVariants as event
+use Rattle.pool_parts.specs.declared.answer.Stepped.{Stepped}
+use Rattle.pool_parts.specs.declared.event.Event.{Event}
+use Rattle.pool_parts.specs.declared.event.Event.TheVariants as event
 use Rattle.pool_outer.specs.declared.gate.Daemon.{Daemon}
 use Rattle.pool_outer.specs.declared.gate.Daemon.TheVariants.{Schedd, Startd, Matchmaker}
-use Rattle.pool_pending.specs.declared.pending.Pending.{Pending}
+use Rattle.pool_parts.specs.declared.pending.Pending.{Pending}
 use Rattle.pool_state.specs.declared.state.PoolState.{PoolState}
 use Rattle.pool_tables.specs.declared.sent.Sent.{Sent}
 use Rattle.pool_view.specs.declared.run.EndReport.{EndReport}
@@ -16,13 +16,13 @@ use Rattle.startd_core.specs.declared.answer.StartdAnswer.{StartdAnswer}
 use Rattle.startd_core.specs.declared.answer.StartdAnswer.TheVariants as startd
 use Rattle.startd_core.specs.declared.answer.StartdStep.{StartdStep}
 use Rattle.startd_core.specs.Startds.{After, StartdValue, after_end, after_mail, after_reboot, after_tick}
-use Rattle.pool_moves.specs.Answers.{answer_of_startd, answer_with, answered}
-use Rattle.pool_moves.specs.Deeds.{startd_answer}
-use Rattle.pool_moves.specs.Happens.{ComesBack, Happens, IsDone, Reacts, Receives, Ticks, counts_brought, counts_event}
-use Rattle.pool_moves.specs.Logging.{IsLogged}
-use Rattle.pool_moves.specs.Startds.{IsReceivedStep, IsStartdStep, ends_after}
-use Rattle.loggable.specs.Answers.{CanAppend}
-use Rattle.loggable.specs.Loggable.{CanBeLogged}
+use Rattle.pool_rules.specs.Answers.{answer_of_startd, answer_with, answered}
+use Rattle.pool_rules.specs.Deeds.{startd_answer}
+use Rattle.pool_rules.specs.Happens.{ComesBack, Happens, IsDone, Reacts, Receives, Ticks, counts_brought, counts_event}
+use Rattle.pool_rules.specs.Logging.{IsLogged}
+use Rattle.pool_rules.specs.Startds.{IsReceivedStep, IsStartdStep, ends_after}
+use Rattle.pool_parts.specs.Appends.{CanAppend}
+use Rattle.pool_parts.specs.Loggable.{CanBeLogged}
 use Rattle.pool_safety.specs.Unfinished.{CanFinish}
 
 -- ---- an answer that has what is unfinished

@@ -5,14 +5,14 @@ use Rattle.ad_eval.specs.Judgement.{Judgement}
 use Rattle.claim_id.specs.declared.numbers.ClaimId.{ClaimId}
 use Rattle.claim_id.specs.declared.numbers.JobId.{JobId}
 use Rattle.claim_id.specs.declared.order.Verb.{Verb}
-use Rattle.pool_event.specs.declared.answer.Stepped.{Stepped}
-use Rattle.pool_event.specs.declared.event.Event.{Event}
-use Rattle.pool_event.specs.declared.event.Event.TheVariants as event
+use Rattle.pool_parts.specs.declared.answer.Stepped.{Stepped}
+use Rattle.pool_parts.specs.declared.event.Event.{Event}
+use Rattle.pool_parts.specs.declared.event.Event.TheVariants as event
 use Rattle.pool_outer.specs.declared.gate.Daemon.{Daemon}
 use Rattle.pool_outer.specs.declared.gate.Daemon.TheVariants.{Schedd, Startd, Matchmaker}
-use Rattle.pool_pending.specs.declared.pending.Pending.{Pending}
-use Rattle.pool_pending.specs.declared.pending.Unfinished.{Unfinished}
-use Rattle.pool_pending.specs.declared.pending.Unfinished.TheVariants.{Submission, Plan}
+use Rattle.pool_parts.specs.declared.pending.Pending.{Pending}
+use Rattle.pool_parts.specs.declared.pending.Unfinished.{Unfinished}
+use Rattle.pool_parts.specs.declared.pending.Unfinished.TheVariants.{Submission, Plan}
 use Rattle.pool_protocol.specs.Protocol.{Protocol}
 use Rattle.pool_state.specs.declared.state.PoolState.{PoolState}
 use Rattle.pool_tables.specs.OrderTables.{is_due_for}
@@ -23,15 +23,15 @@ use Rattle.queue_tx.specs.Printable.{IsPrintable}
 use Rattle.queue_tx.specs.Queues.{KeyedAds, queue_after}
 use Rattle.schedd_state.specs.Reopening.{IsReader}
 use Rattle.startd_core.specs.Startds.{After, StartdValue, after_end, after_mail, after_reboot, after_tick}
-use Rattle.pool_moves.specs.Happens.{ComesBack, Happens, Reacts, Receives, Ticks, counts_brought, crashes}
-use Rattle.pool_moves.specs.Logging.{IsBackWith, IsLogged, Leaver, ScheddIsBack, after_unfinished, leaver_of}
-use Rattle.pool_moves.specs.Masters.{gives}
-use Rattle.pool_moves.specs.Startds.{IsReceivedStep, IsStartdStep, ends_after}
+use Rattle.pool_rules.specs.Happens.{ComesBack, Happens, Reacts, Receives, Ticks, counts_brought, crashes}
+use Rattle.pool_rules.specs.Logging.{IsBackWith, IsLogged, Leaver, ScheddIsBack, after_unfinished, leaver_of}
+use Rattle.pool_rules.specs.Masters.{gives}
+use Rattle.pool_rules.specs.Startds.{IsReceivedStep, IsStartdStep, ends_after}
 use Rattle.pool_safety.specs.Kept.{IsKept}
-use Rattle.loggable.specs.Loggable.{BringsPrintableKeys, CanBeLogged, IsLoggableQueue}
+use Rattle.pool_parts.specs.Loggable.{BringsPrintableKeys, CanBeLogged, IsLoggableQueue}
 use Rattle.pool_safety.specs.Unfinished.{CanFinish}
 use Rattle.pool_safety.proofs.LogPools.{queue_of}
-use Rattle.loggable.proofs.Rooms.{keys_stay, room_stays}
+use Rattle.pool_parts.proofs.Rooms.{keys_stay, room_stays}
 use Rattle.pool_safety.proofs.Readers.{some_reads}
 
 -- ---- the queue of a pool after an event

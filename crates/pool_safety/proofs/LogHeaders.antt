@@ -44,7 +44,7 @@ use Rattle.schedd_core.specs.Rows.{after_mail, after_row, asked_in, ended_at, en
 use Rattle.schedd_core.specs.Ticks.{IsTicked, after_grant, after_give_up, after_lengthen, after_line, after_past, granted_by, lengthened_by}
 use Rattle.schedd_core.proofs.FitsAfter.{Frees}
 use Rattle.schedd_core.proofs.Freed.{end_frees, let_go_frees}
-use Rattle.loggable.specs.Loggable.{KnowsHeader}
+use Rattle.pool_parts.specs.Loggable.{KnowsHeader}
 
 -- what is planned, if anything, knows it
 abbrev pub Knows : KeyedAds → Option JobPlan → Type 0

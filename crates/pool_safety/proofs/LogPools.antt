@@ -4,14 +4,14 @@ use Rattle.std.specs.Prelude.{IfSome, IsOk}
 use Rattle.std.specs.Map.{keys_of}
 use Rattle.ad_tree.specs.Ad.{Attributes}
 use Rattle.claim_id.specs.declared.numbers.JobId.{JobId}
-use Rattle.pool_event.specs.declared.answer.Stepped.{Stepped}
-use Rattle.pool_event.specs.declared.event.Event.TheVariants as event
-use Rattle.pool_past.specs.Clusters.{has_cluster, is_used}
-use Rattle.pool_pending.specs.declared.pending.Pending.{Pending}
-use Rattle.pool_pending.specs.declared.pending.Unfinished.{Unfinished}
-use Rattle.pool_pending.specs.declared.pending.Unfinished.TheVariants.{Plan}
+use Rattle.pool_parts.specs.declared.answer.Stepped.{Stepped}
+use Rattle.pool_parts.specs.declared.event.Event.TheVariants as event
+use Rattle.pool_parts.specs.Clusters.{has_cluster, is_used}
+use Rattle.pool_parts.specs.declared.pending.Pending.{Pending}
+use Rattle.pool_parts.specs.declared.pending.Unfinished.{Unfinished}
+use Rattle.pool_parts.specs.declared.pending.Unfinished.TheVariants.{Plan}
 use Rattle.pool_protocol.specs.Protocol.{Protocol}
-use Rattle.pool_refusals.specs.Refusals.{IsEventRefusal, IsRefusal, closed_refusal, events_refusal, first_of, is_over, jobs_refusal, schedd_refusal}
+use Rattle.pool_rules.specs.Refusals.{IsEventRefusal, IsRefusal, closed_refusal, events_refusal, first_of, is_over, jobs_refusal, schedd_refusal}
 use Rattle.pool_state.specs.declared.opening.TheConstants.{MAX_JOBS}
 use Rattle.pool_state.specs.declared.state.PoolState.{PoolState}
 use Rattle.pool_tables.specs.declared.refusal.StepError.{StepError}
@@ -29,14 +29,14 @@ use Rattle.schedd_plan.specs.declared.plan.JobPlan.TheVariants as plan
 use Rattle.schedd_plan.specs.Plans.{job_of, plan_ops}
 use Rattle.pool_links.specs.Linked.{Awaits, AwaitsPlan}
 use Rattle.pool_links.specs.PoolParts.{Awaited, NewJobs, Planned}
-use Rattle.pool_moves.specs.Happens.{Happens, Reacts, counts_event}
+use Rattle.pool_rules.specs.Happens.{Happens, Reacts, counts_event}
 use Rattle.pool_safety.specs.Few.{AreFew}
 use Rattle.pool_safety.specs.Kept.{IsKept, IsTxOf}
-use Rattle.loggable.specs.Loggable.{AreLoggableJobs, CanBeLogged, HasShortNumbers, IsLoggableQueue, IsNewCluster, KnowsHeader, NamesClaim}
+use Rattle.pool_parts.specs.Loggable.{AreLoggableJobs, CanBeLogged, HasShortNumbers, IsLoggableQueue, IsNewCluster, KnowsHeader, NamesClaim}
 use Rattle.pool_safety.specs.Unfinished.{CanFinish}
 use Rattle.pool_safety.specs.Parts.{awaited_by, awaited_of, parts_of}
-use Rattle.loggable.proofs.PlanLogs.{plan_logs}
-use Rattle.loggable.proofs.Submitting.{submission_logs}
+use Rattle.pool_parts.proofs.PlanLogs.{plan_logs}
+use Rattle.pool_parts.proofs.Submitting.{submission_logs}
 use Rattle.pool_safety.proofs.Refusing.{first_none, then_none}
 use Rattle.pool_safety.proofs.ScheddClusters.{next_is_number}
 use Rattle.pool_safety.proofs.ScheddFree.{free_next}

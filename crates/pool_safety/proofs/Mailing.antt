@@ -9,7 +9,7 @@ use Rattle.pool_tables.specs.declared.sent.Sent.{Sent}
 use Rattle.pool_tables.specs.MailLists.{receiver_of, received_once, with_received}
 use Rattle.pool_view.specs.AbstractPool.{IsIn}
 use Rattle.pool_links.proofs.Kept.{in_both}
-use Rattle.pool_moves.specs.Deeds.{posted}
+use Rattle.pool_rules.specs.Deeds.{posted}
 use Rattle.pool_safety.specs.Parts.{mail_of}
 use Rattle.pool_safety.specs.Kept.{AreAddressed}
 

@@ -1,10 +1,10 @@
 -- The matchmaker's mails, ticks and boots, a crash, and the close of a pool keep it.
 use Rattle.std.proofs.Common.{◌≡◌, ℕ, zero, suc, ◌+◌, ◌-◌, Bool, true, false, List, [], ◌∷◌, length, nat_lt, slice_get, slice_set, Option, Some, None, refl, sym, ◌∙◌, ap, subst, if◌then◌else◌}
 use Rattle.ad_eval.specs.Judgement.{Judgement, Mismatch}
-use Rattle.pool_event.specs.declared.answer.Stepped.{Stepped}
-use Rattle.pool_event.specs.declared.event.Event.TheVariants as event
+use Rattle.pool_parts.specs.declared.answer.Stepped.{Stepped}
+use Rattle.pool_parts.specs.declared.event.Event.TheVariants as event
 use Rattle.pool_mail.specs.declared.end.Ending.{Ending}
-use Rattle.pool_moves.specs.Happens.{Happens, crashes}
+use Rattle.pool_rules.specs.Happens.{Happens, crashes}
 use Rattle.pool_outer.specs.declared.gate.Daemon.{Daemon}
 use Rattle.pool_outer.specs.declared.gate.Daemon.TheVariants.{Schedd, Startd, Matchmaker}
 use Rattle.pool_protocol.specs.Protocol.{Protocol}
@@ -26,7 +26,7 @@ pub receipts_keep : (p : Protocol) (s : PoolState) (boot index reading : ℕ) (j
 unfolding Happens
 receipts_keep p s boot index reading judged mismatch new r k happens = by (slice_get s.mails.sent index) happens
   where
-    by : (o : Option Sent) → Rattle.std.specs.Prelude.IsSomeAnd o (λ sent. Rattle.pool_moves.specs.Happens.Receives Matchmaker index sent.mail reading judged s new r)
+    by : (o : Option Sent) → Rattle.std.specs.Prelude.IsSomeAnd o (λ sent. Rattle.pool_rules.specs.Happens.Receives Matchmaker index sent.mail reading judged s new r)
         → GoesOn p (IsStepOf (event.Receive Matchmaker boot index reading judged mismatch) s) (at_reading reading new)
     by None h = absurd h
     by (Some sent) h = subst (λ t. GoesOn p (IsStepOf (event.Receive Matchmaker boot index reading judged mismatch) s) (at_reading reading t)) (sym h.0)
@@ -50,7 +50,7 @@ daemons_kept p s d same k = record {
 pub returns_keep : (p : Protocol) (s : PoolState) (kept : Option (ReceiptValue (List Operation))) (ended : List (ReceiptValue Ending)) (reading : ℕ) (new : PoolState) (r : Stepped) → IsKept p s
     → Happens (event.Reopen Matchmaker kept ended reading) s new r → GoesOn p (IsStepOf (event.Reopen Matchmaker kept ended reading) s) (at_reading reading new)
 unfolding Happens
-returns_keep p s kept ended reading new r k happens = subst (λ t. GoesOn p (IsStepOf (event.Reopen Matchmaker kept ended reading) s) (at_reading reading t)) (sym (happens.pool ∙ ap (Rattle.pool_moves.specs.Happens.boots (boot_of (daemon_state Matchmaker s.daemons) + 1) Matchmaker) happens.comes.0))
+returns_keep p s kept ended reading new r k happens = subst (λ t. GoesOn p (IsStepOf (event.Reopen Matchmaker kept ended reading) s) (at_reading reading t)) (sym (happens.pool ∙ ap (Rattle.pool_rules.specs.Happens.boots (boot_of (daemon_state Matchmaker s.daemons) + 1) Matchmaker) happens.comes.0))
     (read_on p (IsStepOf (event.Reopen Matchmaker kept ended reading) s) s _ reading refl k (λ q is. staying q (IsStepOf (event.Reopen Matchmaker kept ended reading) s) _ (daemons_kept q (at_reading reading s) _ (λ machine. refl) is)))
 
 -- ---- a crash

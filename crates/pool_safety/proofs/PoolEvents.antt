@@ -4,18 +4,18 @@ use Rattle.ad_eval.specs.Judgement.{Judgement, Mismatch}
 use Rattle.ad_tree.specs.Ad.{Attributes}
 use Rattle.claim_id.specs.declared.numbers.ClaimId.{ClaimId}
 use Rattle.claim_id.specs.declared.numbers.SlotId.{SlotId}
-use Rattle.pool_event.specs.declared.answer.Stepped.{Stepped}
-use Rattle.pool_event.specs.declared.event.Event.{Event}
-use Rattle.pool_event.specs.declared.event.Event.TheVariants as event
-use Rattle.pool_limits.specs.Sizes.{event_count}
+use Rattle.pool_parts.specs.declared.answer.Stepped.{Stepped}
+use Rattle.pool_parts.specs.declared.event.Event.{Event}
+use Rattle.pool_parts.specs.declared.event.Event.TheVariants as event
+use Rattle.pool_parts.specs.Sizes.{event_count}
 use Rattle.pool_mail.specs.declared.mail.Mail.{Mail}
-use Rattle.pool_moves.specs.Given.{IsGiven}
-use Rattle.pool_moves.specs.Happens.{Happens, Reacts, counts_brought, counts_event}
+use Rattle.pool_rules.specs.Given.{IsGiven}
+use Rattle.pool_rules.specs.Happens.{Happens, Reacts, counts_brought, counts_event}
 use Rattle.pool_outer.specs.declared.gate.Daemon.{Daemon}
 use Rattle.pool_outer.specs.declared.gate.Daemon.TheVariants.{Schedd, Startd, Matchmaker}
 use Rattle.pool_protocol.specs.Protocol.{Protocol}
-use Rattle.pool_refusals.specs.Judging.{judged_in}
-use Rattle.pool_refusals.specs.Refusals.{IsAdRefusal, IsAdRefusalBy, IsEventRefusal, IsReceiveRefusal, IsRefusal, Refusal, Then, closed_refusal, events_refusal, first_of, receive_refusal}
+use Rattle.pool_rules.specs.Judging.{judged_in}
+use Rattle.pool_rules.specs.Refusals.{IsAdRefusal, IsAdRefusalBy, IsEventRefusal, IsReceiveRefusal, IsRefusal, Refusal, Then, closed_refusal, events_refusal, first_of, receive_refusal}
 use Rattle.pool_state.specs.declared.state.Counts.{Counts}
 use Rattle.pool_state.specs.declared.state.PoolState.{PoolState}
 use Rattle.pool_tables.specs.declared.sent.Sent.{Sent}

@@ -10,7 +10,7 @@ use Rattle.std.proofs.lemmas.Option.{none-some, same_Some, slice_get_within}
 use Rattle.ad_tree.specs.Ad.{Attributes}
 use Rattle.claim_id.specs.declared.numbers.JobId.{JobId}
 use Rattle.claim_id.specs.declared.numbers.SlotId.{SlotId}
-use Rattle.pool_jobs.specs.Listings.{AreJobs, is_past_job}
+use Rattle.pool_parts.specs.Listings.{AreJobs, is_past_job}
 use Rattle.pool_links.proofs.Kept.{in_both, in_first, in_second}
 use Rattle.pool_links.proofs.Opening.{opening_linked, opening_protocol}
 use Rattle.pool_links.specs.Openings.{IsFreshStartd, IsOpeningPool}

@@ -9,27 +9,27 @@ use Rattle.claim_id.specs.declared.numbers.SlotId.{SlotId}
 use Rattle.claim_id.specs.declared.order.Verb.{Verb}
 use Rattle.claim_id.specs.declared.order.Verb.TheVariants as verb
 use Rattle.claim_id.specs.Texts.{IsClaim}
-use Rattle.pool_event.specs.declared.answer.Stepped.{Stepped}
-use Rattle.pool_event.specs.declared.event.Event.TheVariants as event
+use Rattle.pool_parts.specs.declared.answer.Stepped.{Stepped}
+use Rattle.pool_parts.specs.declared.event.Event.TheVariants as event
 use Rattle.pool_links.proofs.Kept.{in_both}
 use Rattle.pool_links.proofs.Machines.{at_place}
 use Rattle.pool_links.proofs.Wanting.{wanted_linked}
 use Rattle.pool_links.specs.Linked.{IsLinked}
 use Rattle.pool_links.specs.PoolParts.{slot_in_pool, slot_of_startd}
 use Rattle.pool_links.specs.Wanted.{IsWanted}
-use Rattle.pool_machines.specs.Slots.{slot_at, slot_of_machine}
+use Rattle.pool_shown.specs.Slots.{slot_at, slot_of_machine}
 use Rattle.pool_mail.specs.Mails.{receivers_of}
 use Rattle.pool_mail.specs.declared.mail.Mail.{Mail}
 use Rattle.pool_mail.specs.declared.mail.Mail.TheVariants as mail
 use Rattle.pool_mail.specs.declared.matching.Match.{Match}
-use Rattle.pool_moves.specs.Deeds.{receives, sends}
-use Rattle.pool_moves.specs.Given.{AreNumbered, IsGiven, IsNumbered}
-use Rattle.pool_moves.specs.Happens.{Happens, AreLive}
-use Rattle.pool_moves.specs.Masters.{gives, mails_of_matches}
+use Rattle.pool_rules.specs.Deeds.{receives, sends}
+use Rattle.pool_rules.specs.Given.{AreNumbered, IsGiven, IsNumbered}
+use Rattle.pool_rules.specs.Happens.{Happens, AreLive}
+use Rattle.pool_rules.specs.Masters.{gives, mails_of_matches}
 use Rattle.pool_safety.specs.Parts.{mail_of, parts_of}
 use Rattle.pool_outer.specs.declared.gate.Daemon.TheVariants.{Schedd}
 use Rattle.pool_protocol.specs.Protocol.{Protocol}
-use Rattle.pool_refusals.specs.Judging.{IsLive}
+use Rattle.pool_rules.specs.Judging.{IsLive}
 use Rattle.pool_state.specs.declared.state.PoolState.{PoolState}
 use Rattle.pool_tables.specs.MailLists.{received_once, sent_now, with_received}
 use Rattle.pool_tables.specs.OrderTables.{given_by, is_due_for, order_mail}

@@ -10,7 +10,7 @@ use Rattle.pool_links.proofs.Machines.{in_place}
 use Rattle.pool_links.specs.Linked.{AreStartds, IsFinishedAs}
 use Rattle.pool_links.specs.PoolParts.{machine_parts, pool_parts}
 use Rattle.pool_links.specs.Shown.{ShowsPool}
-use Rattle.pool_machines.specs.Slots.{all_slots}
+use Rattle.pool_shown.specs.Slots.{all_slots}
 use Rattle.pool_safety.specs.Parts.{finished_in, parts_of}
 use Rattle.pool_outer.specs.declared.gate.Daemon.TheVariants.{Startd}
 use Rattle.pool_protocol.specs.Protocol.{Protocol}

@@ -4,7 +4,7 @@ use Rattle.std.proofs.lemmas.Bool.{eqb-true}
 use Rattle.std.proofs.lemmas.Option.{none-some}
 use Rattle.pool_outer.specs.declared.gate.Daemon.{Daemon}
 use Rattle.pool_outer.specs.declared.gate.Daemon.TheVariants.{Schedd, Startd, Matchmaker}
-use Rattle.pool_refusals.specs.Refusals.{Refusal, Then, first_of}
+use Rattle.pool_rules.specs.Refusals.{Refusal, Then, first_of}
 use Rattle.pool_tables.specs.DaemonTables.{same_daemon}
 use Rattle.pool_tables.specs.MailLists.{MailsValue, again, mail_refusal, may_receive, sent_refusal}
 use Rattle.pool_tables.specs.declared.refusal.StepError.TheVariants.{NotYours}

@@ -2,13 +2,13 @@
 use Rattle.std.proofs.Common.{max, ◌≡◌, inl, inr, ℕ, ◌+◌, Bool, true, false, List, [], ◌∷◌, Ok, Option, Some, None, is_some, IsSomeAnd, refl, sym, ap, subst}
 use Rattle.claim_id.specs.declared.numbers.ClaimId.{ClaimId}
 use Rattle.claim_id.specs.declared.numbers.JobId.{JobId}
-use Rattle.pool_event.specs.declared.answer.Stepped.{Stepped}
-use Rattle.pool_event.specs.declared.event.Event.TheVariants as event
+use Rattle.pool_parts.specs.declared.answer.Stepped.{Stepped}
+use Rattle.pool_parts.specs.declared.event.Event.TheVariants as event
 use Rattle.pool_mail.specs.declared.end.Ending.{Ending}
 use Rattle.pool_outer.specs.declared.gate.Daemon.TheVariants.{Schedd}
-use Rattle.pool_pending.specs.declared.pending.Pending.{Pending}
-use Rattle.pool_pending.specs.declared.pending.Unfinished.{Unfinished}
-use Rattle.pool_pending.specs.declared.pending.Unfinished.TheVariants.{Submission, Plan}
+use Rattle.pool_parts.specs.declared.pending.Pending.{Pending}
+use Rattle.pool_parts.specs.declared.pending.Unfinished.{Unfinished}
+use Rattle.pool_parts.specs.declared.pending.Unfinished.TheVariants.{Submission, Plan}
 use Rattle.pool_protocol.specs.Protocol.{Protocol, pending_steps}
 use Rattle.pool_protocol.specs.ProtocolMove.{Commit, Drop, protocol_after_all}
 use Rattle.pool_state.specs.declared.state.PoolState.{PoolState}
@@ -27,8 +27,8 @@ use Rattle.pool_links.specs.Linked.{Awaits, AwaitsJobs, AwaitsPlan, StayLinked}
 use Rattle.pool_links.specs.PoolParts.{Awaited}
 use Rattle.pool_links.specs.ScheddEvents.{parts_with_return}
 use Rattle.pool_links.proofs.Returning.{jobs_kept, nothing_kept, plan_kept}
-use Rattle.pool_moves.specs.Happens.{Happens, boots}
-use Rattle.pool_moves.specs.Logging.{IsBackWith, Leaver, ScheddIsBack, cluster_jobs, leaver_of, with_leaver, with_logged}
+use Rattle.pool_rules.specs.Happens.{Happens, boots}
+use Rattle.pool_rules.specs.Logging.{IsBackWith, Leaver, ScheddIsBack, cluster_jobs, leaver_of, with_leaver, with_logged}
 use Rattle.pool_safety.specs.Parts.{awaited_by, awaited_of, finished_in, parts_of}
 use Rattle.pool_safety.specs.Kept.{GoesOn, IsKept, IsPendingTx, IsTxOf, at_reading}
 use Rattle.pool_safety.specs.Steps.{AreSteps, IsQueueStep, IsStepOf}

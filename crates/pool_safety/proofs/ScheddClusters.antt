@@ -2,9 +2,9 @@
 use Rattle.std.proofs.Common.{◌≡◌, ◌⊎◌, inl, inr, ℕ, zero, suc, ◌+◌, ◌-◌, ◌<◌, ◌≤◌, Bool, true, false, ◌&&◌, List, [], ◌∷◌, length, Option, Some, None, if◌then◌else◌, nat_le, nat_lt, ltb-true, add-one, suc-add, zero-add, leb-true, lt-ltb, refl, sym, ◌∙◌, ap, subst, arith}
 use Rattle.std.proofs.lemmas.Bool.{cases_lt}
 use Rattle.ad_tree.specs.Ad.{Attributes}
-use Rattle.pool_past.specs.Clusters.{IsNextCluster, cluster_after, cluster_by, clusters_on, first_cluster, first_cluster_by, is_used}
-use Rattle.pool_past.specs.declared.clusters.TheConstants.{LAST_CLUSTER}
-use Rattle.pool_past.specs.declared.finished.FinishedJob.{FinishedJob}
+use Rattle.pool_parts.specs.Clusters.{IsNextCluster, cluster_after, cluster_by, clusters_on, first_cluster, first_cluster_by, is_used}
+use Rattle.pool_parts.specs.declared.clusters.TheConstants.{LAST_CLUSTER}
+use Rattle.pool_parts.specs.declared.finished.FinishedJob.{FinishedJob}
 use Rattle.pool_view.specs.AbstractPool.{IsIn}
 use Rattle.pool_view.proofs.Sameness.{both_true}
 use Rattle.queue_tx.specs.declared.key.Key.{Key}

@@ -5,15 +5,15 @@ use Rattle.std.proofs.Math.Nat.{le-max_right}
 use Rattle.ad_eval.specs.Judgement.{Judgement, Mismatch}
 use Rattle.ad_tree.specs.Ad.{Attributes}
 use Rattle.claim_id.specs.declared.numbers.JobId.{JobId}
-use Rattle.pool_event.specs.declared.answer.Stepped.{Stepped}
-use Rattle.pool_event.specs.declared.event.Event.TheVariants as event
+use Rattle.pool_parts.specs.declared.answer.Stepped.{Stepped}
+use Rattle.pool_parts.specs.declared.event.Event.TheVariants as event
 use Rattle.pool_mail.specs.declared.mail.Mail.{Mail}
 use Rattle.pool_mail.specs.declared.mail.Mail.TheVariants as mail
 use Rattle.pool_outer.specs.declared.gate.Daemon.TheVariants.{Schedd}
-use Rattle.pool_past.specs.declared.finished.FinishedJob.{FinishedJob}
+use Rattle.pool_parts.specs.declared.finished.FinishedJob.{FinishedJob}
 use Rattle.pool_protocol.specs.Protocol.{Protocol}
 use Rattle.pool_protocol.specs.ProtocolMove.{ProtocolMove, protocol_after_all}
-use Rattle.pool_refusals.specs.Refusals.{IsAdRefusal, IsEventRefusal, receive_refusal}
+use Rattle.pool_rules.specs.Refusals.{IsAdRefusal, IsEventRefusal, receive_refusal}
 use Rattle.pool_state.specs.declared.state.PoolState.{PoolState}
 use Rattle.pool_view.specs.AbstractStep.{AbstractStep, Order, Time}
 use Rattle.pool_state.specs.PoolJobs.{has_job, has_job_by}
@@ -32,15 +32,15 @@ use Rattle.schedd_core.proofs.LostPlans.{check_as, mail_as, tick_as}
 use Rattle.schedd_core.proofs.Marks.{going_passed, moved_passed}
 use Rattle.schedd_plan.specs.declared.plan.JobPlan.{JobPlan}
 use Rattle.schedd_plan.specs.declared.plan.JobPlan.TheVariants as plan
-use Rattle.pool_pending.specs.Plans.{ordered_job}
+use Rattle.pool_parts.specs.Plans.{ordered_job}
 use Rattle.pool_links.specs.Linked.{Awaits, IsLinked, StayLinked}
 use Rattle.pool_links.specs.PoolParts.{Awaited, NewJobs, Planned, PoolParts}
 use Rattle.pool_links.specs.ScheddEvents.{is_known_by, job_removed, moves_of_schedd_mail, orders_of_mail, parts_with_schedd}
 use Rattle.pool_links.proofs.ScheddPlans.{check_linked, mail_linked, remove_orders, tick_linked}
-use Rattle.pool_moves.specs.Deeds.{ordered_by, schedd_acts}
-use Rattle.pool_moves.specs.Happens.{Happens, Receives, is_known}
+use Rattle.pool_rules.specs.Deeds.{ordered_by, schedd_acts}
+use Rattle.pool_rules.specs.Happens.{Happens, Receives, is_known}
 use Rattle.pool_safety.specs.Parts.{entry_done_by, parts_of}
-use Rattle.pool_moves.specs.Schedds.{IsLook, ScheddTicks, after_look, after_receipt_of, jobs_in}
+use Rattle.pool_rules.specs.Schedds.{IsLook, ScheddTicks, after_look, after_receipt_of, jobs_in}
 use Rattle.pool_safety.specs.Kept.{GoesOn, IsKept, at_reading}
 use Rattle.pool_safety.specs.Steps.{IsOrderStep, IsStepOf}
 use Rattle.pool_safety.proofs.HistoryTraces.{look_removes}

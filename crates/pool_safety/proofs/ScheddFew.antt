@@ -8,26 +8,26 @@ use Rattle.claim_id.specs.declared.numbers.ClaimId.{ClaimId}
 use Rattle.claim_id.specs.declared.numbers.JobId.{JobId}
 use Rattle.claim_id.specs.declared.order.Verb.{Verb}
 use Rattle.ordered_map.proofs.Maps.{lookup-insert_entry}
-use Rattle.pool_event.specs.declared.answer.Stepped.{Stepped}
-use Rattle.pool_event.specs.declared.event.Event.{Event}
-use Rattle.pool_event.specs.declared.event.Event.TheVariants as event
+use Rattle.pool_parts.specs.declared.answer.Stepped.{Stepped}
+use Rattle.pool_parts.specs.declared.event.Event.{Event}
+use Rattle.pool_parts.specs.declared.event.Event.TheVariants as event
 use Rattle.pool_outer.specs.declared.gate.Daemon.{Daemon}
 use Rattle.pool_outer.specs.declared.gate.Daemon.TheVariants.{Schedd, Startd, Matchmaker}
-use Rattle.pool_past.specs.Clusters.{has_cluster, is_of_cluster, is_used}
-use Rattle.pool_past.specs.declared.finished.FinishedJob.{FinishedJob}
-use Rattle.pool_pending.specs.declared.pending.Pending.{Pending}
-use Rattle.pool_pending.specs.declared.pending.Unfinished.{Unfinished}
-use Rattle.pool_pending.specs.declared.pending.Unfinished.TheVariants.{Submission, Plan}
+use Rattle.pool_parts.specs.Clusters.{has_cluster, is_of_cluster, is_used}
+use Rattle.pool_parts.specs.declared.finished.FinishedJob.{FinishedJob}
+use Rattle.pool_parts.specs.declared.pending.Pending.{Pending}
+use Rattle.pool_parts.specs.declared.pending.Unfinished.{Unfinished}
+use Rattle.pool_parts.specs.declared.pending.Unfinished.TheVariants.{Submission, Plan}
 use Rattle.pool_protocol.specs.Protocol.{NewJob, Protocol}
 use Rattle.pool_state.specs.declared.state.PoolState.{PoolState}
-use Rattle.pool_submission.specs.Submissions.{job_numbered}
+use Rattle.pool_parts.specs.Submissions.{job_numbered}
 use Rattle.pool_view.specs.AbstractPool.{IsIn}
 use Rattle.pool_view.specs.Numbers.{same_job}
 use Rattle.pool_view.specs.declared.job.Outcome.{Outcome}
 use Rattle.pool_view.proofs.Sameness.{same_job-true}
 use Rattle.queue_tx.specs.declared.key.Key.{Key}
 use Rattle.queue_tx.specs.declared.key.Key.TheVariants.{Header, Proc}
-use Rattle.pool_limits.specs.Sizes.{queue_count}
+use Rattle.pool_parts.specs.Sizes.{queue_count}
 use Rattle.pool_state.specs.declared.opening.Opening.{Opening}
 use Rattle.pool_state.specs.Openings.{CanOpen, IsOpenedBy}
 use Rattle.pool_tables.specs.OrderTables.{is_due_for}
@@ -46,11 +46,11 @@ use Rattle.pool_links.specs.Linked.{Awaits, AwaitsJobs, AwaitsPlan, BringsJobs, 
 use Rattle.pool_links.specs.PoolParts.{Awaited}
 use Rattle.pool_links.proofs.Kept.{in_first, in_second}
 use Rattle.pool_links.proofs.Submitting.{OneOrNone, one_or_none}
-use Rattle.pool_moves.specs.Happens.{ComesBack, Happens, Reacts, Receives, Ticks, counts_brought, counts_event, crashes}
-use Rattle.pool_moves.specs.Logging.{IsBackWith, IsLogged, Leaver, ScheddIsBack, after_unfinished, cluster_jobs, leaver_as, leaver_of, leaver_with, outcome_of, run_under, with_leaver}
-use Rattle.pool_moves.specs.Masters.{gives}
+use Rattle.pool_rules.specs.Happens.{ComesBack, Happens, Reacts, Receives, Ticks, counts_brought, counts_event, crashes}
+use Rattle.pool_rules.specs.Logging.{IsBackWith, IsLogged, Leaver, ScheddIsBack, after_unfinished, cluster_jobs, leaver_as, leaver_of, leaver_with, outcome_of, run_under, with_leaver}
+use Rattle.pool_rules.specs.Masters.{gives}
 use Rattle.pool_safety.specs.Parts.{awaited_by, awaited_of, parts_of}
-use Rattle.pool_moves.specs.Startds.{IsReceivedStep, IsStartdStep, ends_after}
+use Rattle.pool_rules.specs.Startds.{IsReceivedStep, IsStartdStep, ends_after}
 use Rattle.pool_tables.specs.declared.sent.Sent.{Sent}
 use Rattle.pool_view.specs.declared.run.EndReport.{EndReport}
 use Rattle.pool_safety.specs.Few.{AreFew}

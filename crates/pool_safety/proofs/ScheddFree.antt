@@ -1,19 +1,19 @@
 -- Jobs that are submitted get a free cluster, so that the pool is kept.
 use Rattle.std.proofs.Common.{◌≡◌, ℕ, ◌+◌, ◌<◌, ◌≤◌, Bool, true, false, List, [], ◌∷◌, length, Option, Some, None, nat_lt, if◌then◌else◌, ltb-true, refl, sym, subst, arith}
 use Rattle.ad_tree.specs.Ad.{Attributes}
-use Rattle.pool_event.specs.declared.answer.Stepped.{Stepped}
-use Rattle.pool_event.specs.declared.event.Event.TheVariants as event
-use Rattle.pool_limits.specs.declared.size.TheConstants.{MAX_BYTES}
-use Rattle.pool_past.specs.Clusters.{IsNextCluster, is_used}
-use Rattle.pool_past.specs.declared.clusters.TheConstants.{LAST_CLUSTER}
+use Rattle.pool_parts.specs.declared.answer.Stepped.{Stepped}
+use Rattle.pool_parts.specs.declared.event.Event.TheVariants as event
+use Rattle.pool_parts.specs.declared.size.TheConstants.{MAX_BYTES}
+use Rattle.pool_parts.specs.Clusters.{IsNextCluster, is_used}
+use Rattle.pool_parts.specs.declared.clusters.TheConstants.{LAST_CLUSTER}
 use Rattle.pool_protocol.specs.Protocol.{Protocol}
-use Rattle.pool_refusals.specs.Refusals.{IsEventRefusal, IsRefusal, closed_refusal, events_refusal, first_of}
-use Rattle.pool_refusals.specs.declared.refusal.TheConstants.{MAX_EVENTS}
+use Rattle.pool_rules.specs.Refusals.{IsEventRefusal, IsRefusal, closed_refusal, events_refusal, first_of}
+use Rattle.pool_rules.specs.declared.refusal.TheConstants.{MAX_EVENTS}
 use Rattle.pool_state.specs.declared.state.PoolState.{PoolState}
 use Rattle.pool_tables.specs.declared.refusal.StepError.{StepError}
 use Rattle.pool_tables.specs.declared.refusal.StepError.TheVariants as error
-use Rattle.pool_moves.specs.Given.{IsGiven}
-use Rattle.pool_moves.specs.Happens.{Happens}
+use Rattle.pool_rules.specs.Given.{IsGiven}
+use Rattle.pool_rules.specs.Happens.{Happens}
 use Rattle.pool_safety.specs.Few.{AreFew}
 use Rattle.pool_safety.specs.Kept.{GoesOn, IsKept, at_reading}
 use Rattle.pool_safety.specs.Steps.{IsStepOf}

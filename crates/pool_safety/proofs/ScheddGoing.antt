@@ -2,11 +2,11 @@
 use Rattle.std.proofs.Common.{◌≡◌, ℕ, max, List, [], ◌∷◌, ◌++◌, Option, Some, None, refl, sym, ap, subst}
 use Rattle.claim_id.specs.declared.numbers.JobId.{JobId}
 use Rattle.pool_mail.specs.declared.mail.Mail.{Mail}
-use Rattle.pool_pending.specs.declared.pending.Pending.{Pending}
-use Rattle.pool_pending.specs.Receipts.{still_pending}
+use Rattle.pool_parts.specs.declared.pending.Pending.{Pending}
+use Rattle.pool_parts.specs.Receipts.{still_pending}
 use Rattle.pool_protocol.specs.Protocol.{Protocol}
 use Rattle.pool_protocol.specs.ProtocolMove.{ProtocolMove, PassTime, all_steps, protocol_after_all}
-use Rattle.pool_refusals.specs.Refusals.{Refusal, check_refusal, first_of, jobs_refusal, receive_refusal, schedd_refusal, submit_refusal, tick_refusal, unless_due}
+use Rattle.pool_rules.specs.Refusals.{Refusal, check_refusal, first_of, jobs_refusal, receive_refusal, schedd_refusal, submit_refusal, tick_refusal, unless_due}
 use Rattle.pool_state.specs.declared.state.PoolState.{PoolState}
 use Rattle.pool_outer.specs.declared.gate.Daemon.TheVariants.{Schedd}
 use Rattle.pool_tables.specs.DaemonTables.{daemon_refusal}
@@ -26,8 +26,8 @@ use Rattle.pool_links.specs.StartdEvents.{parts_at_reading}
 use Rattle.pool_links.proofs.Going.{after_append, may_append}
 use Rattle.pool_links.proofs.ScheddKept.{time_linked}
 use Rattle.pool_links.proofs.Viewing.{same_linked}
-use Rattle.pool_moves.specs.Answers.{pending_by}
-use Rattle.pool_moves.specs.Deeds.{receives, schedd_acts}
+use Rattle.pool_rules.specs.Answers.{pending_by}
+use Rattle.pool_rules.specs.Deeds.{receives, schedd_acts}
 use Rattle.pool_safety.specs.Parts.{awaited_of, parts_of}
 use Rattle.pool_safety.specs.Kept.{AreAddressed, AreInBoot, GoesOn, IsKept, IsPendingTx, at_reading}
 use Rattle.pool_safety.specs.Steps.{AreSteps}

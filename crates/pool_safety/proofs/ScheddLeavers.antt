@@ -9,8 +9,8 @@ use Rattle.claim_id.specs.declared.numbers.ClaimId.{ClaimId}
 use Rattle.claim_id.specs.declared.numbers.JobId.{JobId}
 use Rattle.claim_id.specs.declared.numbers.RunNo.{RunNo}
 use Rattle.ordered_map.proofs.Maps.{lookup-insert_entry}
-use Rattle.pool_past.specs.declared.finished.FinishedJob.{FinishedJob}
-use Rattle.pool_pending.specs.declared.pending.Unfinished.TheVariants.{Plan}
+use Rattle.pool_parts.specs.declared.finished.FinishedJob.{FinishedJob}
+use Rattle.pool_parts.specs.declared.pending.Unfinished.TheVariants.{Plan}
 use Rattle.pool_protocol.specs.Protocol.{Protocol}
 use Rattle.pool_state.specs.declared.state.PoolState.{PoolState}
 use Rattle.pool_view.specs.AbstractPool.{set}
@@ -36,7 +36,7 @@ use Rattle.schedd_plan.specs.Plans.{job_of}
 use Rattle.pool_links.specs.Linked.{AwaitsPlan, IsLinked}
 use Rattle.pool_links.specs.ScheddEvents.{Finishes, LeavesBy, NamesSomeRun, finished_with}
 use Rattle.pool_links.proofs.Completing.{run_is_named}
-use Rattle.pool_moves.specs.Logging.{Leaver, ended_by, leaver_as, leaver_of, leaver_with, outcome_of, run_named, run_under, with_leaver}
+use Rattle.pool_rules.specs.Logging.{Leaver, ended_by, leaver_as, leaver_of, leaver_with, outcome_of, run_named, run_under, with_leaver}
 use Rattle.pool_safety.specs.Parts.{entry_done, entry_done_by, finished_in, parts_of}
 
 -- ---- jobs that have left the queue, with one more

@@ -6,12 +6,12 @@ use Rattle.std.specs.declared.cmp.Ordering.{Ordering}
 use Rattle.std.specs.declared.cmp.Ordering.TheVariants.{Less, Equal}
 use Rattle.claim_id.specs.declared.numbers.ClaimId.{ClaimId}
 use Rattle.claim_id.specs.declared.numbers.JobId.{JobId}
-use Rattle.pool_event.specs.declared.answer.Stepped.{Stepped}
-use Rattle.pool_event.specs.declared.event.Event.TheVariants as event
+use Rattle.pool_parts.specs.declared.answer.Stepped.{Stepped}
+use Rattle.pool_parts.specs.declared.event.Event.TheVariants as event
 use Rattle.pool_mail.specs.declared.mail.Mail.{Mail}
-use Rattle.pool_pending.specs.declared.pending.Pending.{Pending}
-use Rattle.pool_pending.specs.declared.pending.Unfinished.{Unfinished}
-use Rattle.pool_pending.specs.declared.pending.Unfinished.TheVariants.{Submission, Plan}
+use Rattle.pool_parts.specs.declared.pending.Pending.{Pending}
+use Rattle.pool_parts.specs.declared.pending.Unfinished.{Unfinished}
+use Rattle.pool_parts.specs.declared.pending.Unfinished.TheVariants.{Submission, Plan}
 use Rattle.pool_protocol.specs.Protocol.{NewJob, Protocol}
 use Rattle.pool_protocol.specs.ProtocolMove.{Commit, confirm_move}
 use Rattle.pool_state.specs.declared.state.PoolState.{PoolState}
@@ -36,9 +36,9 @@ use Rattle.pool_links.specs.ScheddEvents.{parts_with_jobs, parts_with_plan}
 use Rattle.pool_links.proofs.Kept.{in_both}
 use Rattle.pool_links.proofs.ScheddLogged.{plan_logged}
 use Rattle.pool_links.proofs.Submitting.{jobs_logged}
-use Rattle.pool_moves.specs.Deeds.{counts_sent, posts}
-use Rattle.pool_moves.specs.Happens.{Happens}
-use Rattle.pool_moves.specs.Logging.{IsLogged, Leaver, after_unfinished, cluster_jobs, counts_logged, leaver_of, with_logged, with_submission}
+use Rattle.pool_rules.specs.Deeds.{counts_sent, posts}
+use Rattle.pool_rules.specs.Happens.{Happens}
+use Rattle.pool_rules.specs.Logging.{IsLogged, Leaver, after_unfinished, cluster_jobs, counts_logged, leaver_of, with_logged, with_submission}
 use Rattle.pool_safety.specs.Parts.{awaited_by, awaited_of, parts_of}
 use Rattle.pool_safety.specs.Kept.{GoesOn, IsKept, IsPendingTx, IsTxOf}
 use Rattle.pool_safety.specs.Steps.{IsAcknowledgeStep, IsPlanStep, IsQueueStep, IsStepOf}

@@ -9,7 +9,7 @@ use Rattle.pool_links.specs.PoolParts.{PoolParts}
 use Rattle.pool_links.specs.ScheddEvents.{late_order, moves_of_schedd_mail}
 use Rattle.pool_mail.specs.declared.mail.Mail.{Mail}
 use Rattle.pool_mail.specs.declared.mail.Mail.TheVariants as mail
-use Rattle.pool_pending.specs.Plans.{ordered_job}
+use Rattle.pool_parts.specs.Plans.{ordered_job}
 use Rattle.pool_protocol.specs.Protocol.{Change, NewJob, Protocol, change_steps, pending_steps, queue_step}
 use Rattle.pool_protocol.specs.ProtocolMove.{ProtocolMove, Commit, TakeOrder, all_steps, confirm_move, protocol_after}
 use Rattle.pool_view.specs.AbstractPool.{IsIn}
@@ -32,8 +32,8 @@ use Rattle.schedd_table.specs.declared.places.JobPlace.TheVariants as place
 use Rattle.schedd_plan.specs.declared.plan.JobPlan.{JobPlan}
 use Rattle.schedd_plan.specs.declared.plan.JobPlan.TheVariants as plan
 use Rattle.schedd_plan.specs.Plans.{job_of}
-use Rattle.pool_moves.specs.Logging.{cluster_jobs}
-use Rattle.pool_pending.specs.declared.pending.Unfinished.TheVariants.{Submission}
+use Rattle.pool_rules.specs.Logging.{cluster_jobs}
+use Rattle.pool_parts.specs.declared.pending.Unfinished.TheVariants.{Submission}
 use Rattle.pool_links.specs.Linked.{new_job_id}
 use Rattle.pool_safety.specs.Steps.{AreSteps, IsAcknowledgeStep, IsOrderStep, IsPlanStep, IsQueueStep}
 use Rattle.pool_safety.proofs.ScheddLists.{in_map}

@@ -3,14 +3,14 @@ use Rattle.std.proofs.Common.{max, ◌≡◌, ℕ, zero, suc, ◌+◌, ◌<◌, 
 use Rattle.std.specs.Map.{keys_of, lookup}
 use Rattle.ad_tree.specs.Ad.{Attributes}
 use Rattle.claim_id.specs.declared.numbers.JobId.{JobId}
-use Rattle.pool_past.specs.Clusters.{has_cluster, is_of_cluster, is_used}
-use Rattle.pool_past.specs.declared.finished.FinishedJob.{FinishedJob}
+use Rattle.pool_parts.specs.Clusters.{has_cluster, is_of_cluster, is_used}
+use Rattle.pool_parts.specs.declared.finished.FinishedJob.{FinishedJob}
 use Rattle.pool_protocol.specs.Protocol.{NewJob, Protocol}
 use Rattle.pool_protocol.specs.Protocol.{Submission as submitted}
 use Rattle.pool_protocol.specs.ProtocolMove.{Pend}
 use Rattle.pool_state.specs.declared.state.PoolState.{PoolState}
-use Rattle.pool_submission.specs.Submissions.{ad_ops, attribute_op, header_ops, job_numbered, jobs_ops, next_cluster_op, submission_ops}
-use Rattle.pool_submission.specs.declared.submission.TheConstants.{KIND, OTHER}
+use Rattle.pool_parts.specs.Submissions.{ad_ops, attribute_op, header_ops, job_numbered, jobs_ops, next_cluster_op, submission_ops}
+use Rattle.pool_parts.specs.declared.submission.TheConstants.{KIND, OTHER}
 use Rattle.queue_tx.specs.declared.key.Key.{Key}
 use Rattle.queue_tx.specs.declared.key.Key.TheVariants.{Header, Proc}
 use Rattle.queue_tx.specs.Keys.{same_key}
@@ -24,9 +24,9 @@ use Rattle.pool_links.specs.PoolParts.{Awaited, NewJobs}
 use Rattle.pool_links.specs.ScheddEvents.{AreNewJobs, IsNotAmong, parts_with_submission}
 use Rattle.pool_links.proofs.Bringing.{brings_jobs}
 use Rattle.pool_links.proofs.Submitting.{jobs_submitted}
-use Rattle.pool_moves.specs.Given.{AreIdle}
-use Rattle.pool_moves.specs.Happens.{submission_of}
-use Rattle.pool_moves.specs.Logging.{cluster_jobs}
+use Rattle.pool_rules.specs.Given.{AreIdle}
+use Rattle.pool_rules.specs.Happens.{submission_of}
+use Rattle.pool_rules.specs.Logging.{cluster_jobs}
 use Rattle.pool_safety.specs.Parts.{entry_done_by, finished_in, parts_of}
 use Rattle.pool_view.specs.AbstractStep.{AbstractStep, Time}
 use Rattle.pool_safety.specs.Kept.{GoesOn, IsKept, at_reading}
@@ -46,7 +46,7 @@ settings_as job [] = refl
 settings_as job (a ∷ rest) = ap (λ (os : List Operation). setting_op job a ∷ os) (settings_as job rest)
 
 one_as : (job : JobId) (ad : Attributes) → ad_ops (Proc job) ad ≡ bringing_ops KIND.now OTHER.now (job, ad)
-one_as job ad = ap (λ (os : List Operation). Rattle.pool_submission.specs.Submissions.new_ad_op (Proc job) ∷ os) (settings_as job ad)
+one_as job ad = ap (λ (os : List Operation). Rattle.pool_parts.specs.Submissions.new_ad_op (Proc job) ∷ os) (settings_as job ad)
 
 jobs_as : (cluster proc : ℕ) (ads : List Attributes) → jobs_ops cluster proc ads ≡ all_bringing_ops KIND.now OTHER.now (job_ads cluster proc ads)
 jobs_as cluster proc [] = refl

@@ -2,14 +2,14 @@
 use Rattle.std.proofs.Common.{◌≡◌, inl, inr, ℕ, ◌+◌, max, List, [], ◌∷◌, Option, Some, None, IfSome, IsSomeAnd, is_some, slice_get, refl, sym, ◌∙◌, ap, subst}
 use Rattle.std.proofs.lemmas.Option.{none-some}
 use Rattle.ad_eval.specs.Judgement.{Judgement, Mismatch}
-use Rattle.pool_event.specs.declared.answer.Stepped.{Stepped}
-use Rattle.pool_event.specs.declared.event.Event.TheVariants as event
+use Rattle.pool_parts.specs.declared.answer.Stepped.{Stepped}
+use Rattle.pool_parts.specs.declared.event.Event.TheVariants as event
 use Rattle.pool_mail.specs.Mails.{receivers_of}
 use Rattle.pool_mail.specs.declared.end.Ending.{Ending}
 use Rattle.pool_outer.specs.declared.gate.Daemon.TheVariants.{Startd}
 use Rattle.pool_protocol.specs.Protocol.{Protocol}
 use Rattle.pool_protocol.specs.ProtocolMove.{PassTime, protocol_after}
-use Rattle.pool_refusals.specs.Refusals.{IsAdRefusal, IsEventRefusal, IsReturnRefusal, busy_refusal, receive_refusal}
+use Rattle.pool_rules.specs.Refusals.{IsAdRefusal, IsEventRefusal, IsReturnRefusal, busy_refusal, receive_refusal}
 use Rattle.pool_state.specs.declared.state.PoolState.{PoolState}
 use Rattle.pool_state.specs.Readings.{boot_of}
 use Rattle.pool_tables.specs.DaemonTables.{daemon_refusal, reopen_refusal, reopen_refusal_at, daemon_state}
@@ -33,10 +33,10 @@ use Rattle.pool_links.proofs.ScheddKept.{time_linked}
 use Rattle.pool_links.proofs.StartdEnds.{end_linked}
 use Rattle.pool_links.proofs.StartdMails.{mail_linked}
 use Rattle.pool_links.proofs.StartdTimes.{boot_linked, tick_linked}
-use Rattle.pool_moves.specs.Deeds.{receives, startd_acts}
-use Rattle.pool_moves.specs.Happens.{Happens, IsReopened, Receives, boots}
+use Rattle.pool_rules.specs.Deeds.{receives, startd_acts}
+use Rattle.pool_rules.specs.Happens.{Happens, IsReopened, Receives, boots}
 use Rattle.pool_safety.specs.Parts.{parts_of}
-use Rattle.pool_moves.specs.Startds.{IsReceivedStep, IsStartdStep, StartdReceives, ends_after}
+use Rattle.pool_rules.specs.Startds.{IsReceivedStep, IsStartdStep, StartdReceives, ends_after}
 use Rattle.pool_safety.specs.Kept.{GoesOn, IsKept, at_reading}
 use Rattle.pool_safety.specs.Steps.{IsMailStep, IsStepOf}
 use Rattle.pool_safety.proofs.StartdSteps.{boots_make, ended_makes, startd_mail_makes, ticks_make}

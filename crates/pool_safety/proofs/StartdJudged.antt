@@ -5,11 +5,11 @@ use Rattle.std.proofs.lemmas.Option.{none-some}
 use Rattle.ad_eval.specs.Judgement.{Judgement, Mismatch, IsJudgementOf}
 use Rattle.ad_tree.specs.Ad.{Attributes}
 use Rattle.claim_id.specs.declared.numbers.SlotId.{SlotId}
-use Rattle.pool_machines.specs.Slots.{slot_at, slot_numbered, slot_of_machine}
+use Rattle.pool_shown.specs.Slots.{slot_at, slot_numbered, slot_of_machine}
 use Rattle.pool_mail.specs.declared.mail.Mail.{Mail}
 use Rattle.pool_mail.specs.declared.mail.Mail.TheVariants.{Update, Matched, Ask, Granted, Denied, Activate, Alive, Seen, Stop, Release, Gone, Ended, Remove, Hold, Resume}
-use Rattle.pool_refusals.specs.Judging.{IsFair, IsFairOf, judged_in, nothing_given}
-use Rattle.pool_refusals.specs.Refusals.{IsAdRefusalBy}
+use Rattle.pool_rules.specs.Judging.{IsFair, IsFairOf, judged_in, nothing_given}
+use Rattle.pool_rules.specs.Refusals.{IsAdRefusalBy}
 use Rattle.pool_state.specs.declared.state.PoolState.{PoolState}
 use Rattle.pool_tables.specs.declared.refusal.StepError.TheVariants as error
 use Rattle.startd_slot.specs.declared.slot.Slot.{Slot}

@@ -19,8 +19,8 @@ use Rattle.pool_links.specs.StartdEvents.{parts_at_reading, parts_with_startd}
 use Rattle.pool_links.proofs.Kept.{in_both, in_first, in_second}
 use Rattle.pool_links.proofs.ScheddKept.{time_linked}
 use Rattle.pool_links.proofs.Viewing.{lead_on, same_linked}
-use Rattle.pool_moves.specs.Deeds.{posted, receives, startd_acts}
-use Rattle.pool_moves.specs.Happens.{boots}
+use Rattle.pool_rules.specs.Deeds.{posted, receives, startd_acts}
+use Rattle.pool_rules.specs.Happens.{boots}
 use Rattle.pool_safety.specs.Parts.{awaited_of, finished_in, parts_of}
 use Rattle.pool_safety.specs.Kept.{AreInBoot, GoesOn, IsKept, IsPendingTx, at_reading}
 use Rattle.pool_safety.specs.Steps.{AreSteps}

@@ -1,14 +1,14 @@
 -- What a startd launches is a run that a match started, in each abstract pool that the pool shows.
 use Rattle.std.proofs.Common.{◌≡◌, ℕ, max, List, [], ◌∷◌, Option, Some, None, IfSome, IsSomeAnd, refl, sym, ◌∙◌, ap, subst}
 use Rattle.ad_eval.specs.Judgement.{Judgement, Mismatch}
-use Rattle.pool_event.specs.declared.answer.Answer.{Answer}
-use Rattle.pool_event.specs.declared.answer.Answer.TheVariants as answer
-use Rattle.pool_event.specs.declared.answer.Stepped.{Stepped}
-use Rattle.pool_event.specs.declared.event.Event.TheVariants as event
+use Rattle.pool_parts.specs.declared.answer.Answer.{Answer}
+use Rattle.pool_parts.specs.declared.answer.Answer.TheVariants as answer
+use Rattle.pool_parts.specs.declared.answer.Stepped.{Stepped}
+use Rattle.pool_parts.specs.declared.event.Event.TheVariants as event
 use Rattle.pool_outer.specs.declared.gate.Daemon.TheVariants.{Startd}
 use Rattle.pool_protocol.specs.Protocol.{Protocol}
 use Rattle.pool_protocol.specs.ProtocolMove.{ProtocolMove, PassTime, protocol_after_all}
-use Rattle.pool_refusals.specs.Refusals.{IsEventRefusal}
+use Rattle.pool_rules.specs.Refusals.{IsEventRefusal}
 use Rattle.pool_state.specs.declared.state.PoolState.{PoolState}
 use Rattle.pool_view.specs.AbstractPool.{AbstractPool, SameView}
 use Rattle.pool_view.specs.Ads.{core_of}
@@ -24,8 +24,8 @@ use Rattle.pool_links.specs.Shown.{ShowsPool}
 use Rattle.pool_links.specs.StartdEvents.{moves_of_startd_mail}
 use Rattle.pool_links.proofs.Launching.{permits_matched}
 use Rattle.pool_links.proofs.Viewing.{linked_shows, one_view}
-use Rattle.pool_moves.specs.Answers.{answer_of_startd}
-use Rattle.pool_moves.specs.Happens.{Happens}
+use Rattle.pool_rules.specs.Answers.{answer_of_startd}
+use Rattle.pool_rules.specs.Happens.{Happens}
 use Rattle.pool_safety.specs.Parts.{parts_of}
 use Rattle.pool_safety.specs.Kept.{IsKept, at_reading}
 use Rattle.pool_safety.proofs.StartdGoing.{got, got_goes, protocol_at}

@@ -1,9 +1,9 @@
 -- What a pool counts of its jobs, and of the bytes of its ads.
 use Rattle.std.specs.Prelude.{◌≡◌, ℕ, ◌+◌, ◌≤◌, List, [], ◌∷◌, Option, Some, None}
-use Rattle.pool_event.specs.declared.event.Event.{Event}
-use Rattle.pool_limits.specs.Sizes.{event_count, mail_count, queue_count}
-use Rattle.pool_moves.specs.Logging.{jobs_after}
-use Rattle.pool_pending.specs.declared.pending.Pending.{Pending}
+use Rattle.pool_parts.specs.declared.event.Event.{Event}
+use Rattle.pool_parts.specs.Sizes.{event_count, mail_count, queue_count}
+use Rattle.pool_rules.specs.Logging.{jobs_after}
+use Rattle.pool_parts.specs.declared.pending.Pending.{Pending}
 use Rattle.pool_state.specs.Openings.{IsJobCount}
 use Rattle.pool_state.specs.declared.state.PoolState.{PoolState}
 use Rattle.pool_state.specs.declared.opening.TheConstants.{MAX_JOBS}

@@ -1,7 +1,7 @@
 -- That few clusters are used.
 use Rattle.std.specs.Prelude.{◌≡◌, ℕ, ◌+◌, ◌≤◌, true, List, length}
-use Rattle.pool_limits.specs.declared.size.TheConstants.{MAX_BYTES}
-use Rattle.pool_past.specs.Clusters.{is_used}
+use Rattle.pool_parts.specs.declared.size.TheConstants.{MAX_BYTES}
+use Rattle.pool_parts.specs.Clusters.{is_used}
 use Rattle.pool_state.specs.declared.state.PoolState.{PoolState}
 use Rattle.pool_view.specs.AbstractPool.{IsIn}
 

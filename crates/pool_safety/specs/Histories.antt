@@ -1,17 +1,17 @@
 -- Histories: the events that a pool accepts one after the other, from its opening on.
 use Rattle.std.specs.Prelude.{◌≡◌, ◌⊎◌, ℕ, List, [], ◌∷◌, None}
 use Rattle.claim_id.specs.declared.numbers.JobId.{JobId}
-use Rattle.pool_event.specs.declared.answer.Answer.{Answer}
-use Rattle.pool_event.specs.declared.answer.Answer.TheVariants.{Launch}
-use Rattle.pool_event.specs.declared.answer.Stepped.{Stepped}
-use Rattle.pool_event.specs.declared.event.Event.{Event}
-use Rattle.pool_event.specs.Events.{reading_of}
+use Rattle.pool_parts.specs.declared.answer.Answer.{Answer}
+use Rattle.pool_parts.specs.declared.answer.Answer.TheVariants.{Launch}
+use Rattle.pool_parts.specs.declared.answer.Stepped.{Stepped}
+use Rattle.pool_parts.specs.declared.event.Event.{Event}
+use Rattle.pool_parts.specs.Events.{reading_of}
 use Rattle.pool_links.specs.Launched.{IsPermitOf}
 use Rattle.pool_links.specs.Shown.{ShowsPool}
-use Rattle.pool_moves.specs.Given.{IsGiven}
-use Rattle.pool_moves.specs.Happens.{Reacts, latest_after}
+use Rattle.pool_rules.specs.Given.{IsGiven}
+use Rattle.pool_rules.specs.Happens.{Reacts, latest_after}
 use Rattle.pool_safety.specs.Parts.{parts_of}
-use Rattle.pool_refusals.specs.Refusals.{IsRefusal}
+use Rattle.pool_rules.specs.Refusals.{IsRefusal}
 use Rattle.pool_state.specs.Openings.{CanOpen, IsOpenedBy}
 use Rattle.pool_state.specs.declared.opening.Opening.{Opening}
 use Rattle.pool_state.specs.declared.state.PoolState.{PoolState}

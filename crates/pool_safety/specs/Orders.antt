@@ -2,8 +2,8 @@
 use Rattle.std.specs.Prelude.{◌≡◌, true, slice_get, IsSomeAnd}
 use Rattle.ad_names.specs.declared.job.TheConstants.{PERIODIC_REMOVE}
 use Rattle.claim_id.specs.declared.numbers.JobId.{JobId}
-use Rattle.pool_event.specs.declared.event.Event.{Event}
-use Rattle.pool_event.specs.declared.event.Event.TheVariants as event
+use Rattle.pool_parts.specs.declared.event.Event.{Event}
+use Rattle.pool_parts.specs.declared.event.Event.TheVariants as event
 use Rattle.pool_mail.specs.declared.mail.Mail.TheVariants as mail
 use Rattle.pool_outer.specs.declared.gate.Daemon.TheVariants.{Schedd}
 use Rattle.pool_state.specs.declared.state.PoolState.{PoolState}

@@ -4,10 +4,10 @@ use Rattle.std.specs.Map.{lookup}
 use Rattle.claim_id.specs.declared.numbers.JobId.{JobId}
 use Rattle.pool_links.specs.PoolParts.{Awaited, NewJobs, Planned, PoolParts}
 use Rattle.pool_mail.specs.declared.mail.Mail.{Mail}
-use Rattle.pool_past.specs.declared.finished.FinishedJob.{FinishedJob}
-use Rattle.pool_pending.specs.declared.pending.Pending.{Pending}
-use Rattle.pool_pending.specs.declared.pending.Unfinished.{Unfinished}
-use Rattle.pool_pending.specs.declared.pending.Unfinished.TheVariants.{Submission, Plan}
+use Rattle.pool_parts.specs.declared.finished.FinishedJob.{FinishedJob}
+use Rattle.pool_parts.specs.declared.pending.Pending.{Pending}
+use Rattle.pool_parts.specs.declared.pending.Unfinished.{Unfinished}
+use Rattle.pool_parts.specs.declared.pending.Unfinished.TheVariants.{Submission, Plan}
 use Rattle.pool_state.specs.declared.state.PoolState.{PoolState}
 use Rattle.pool_tables.specs.declared.sent.Sent.{Sent}
 use Rattle.pool_view.specs.Ads.{core_of}
@@ -17,7 +17,7 @@ use Rattle.queue_tx.specs.declared.key.Key.{Key}
 use Rattle.queue_tx.specs.declared.key.Key.TheVariants.{Proc}
 use Rattle.queue_tx.specs.Keys.{same_key}
 use Rattle.queue_tx.specs.Operations.{Operation}
-use Rattle.pool_moves.specs.Logging.{cluster_jobs}
+use Rattle.pool_rules.specs.Logging.{cluster_jobs}
 
 abbrev pub mail_of : Sent → Mail
 mail_of sent = sent.mail

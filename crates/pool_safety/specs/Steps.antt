@@ -2,14 +2,14 @@
 use Rattle.std.specs.Prelude.{◌≡◌, ◌⊎◌, ℕ, max, List, Option, Some, None, IsSome, IsSomeAnd, slice_get}
 use Rattle.ad_eval.specs.Judgement.{Judgement}
 use Rattle.claim_id.specs.declared.numbers.RunNo.{RunNo}
-use Rattle.pool_event.specs.declared.event.Event.{Event}
-use Rattle.pool_event.specs.declared.event.Event.TheVariants as event
+use Rattle.pool_parts.specs.declared.event.Event.{Event}
+use Rattle.pool_parts.specs.declared.event.Event.TheVariants as event
 use Rattle.pool_mail.specs.declared.mail.Mail.{Mail}
 use Rattle.pool_mail.specs.declared.mail.Mail.TheVariants as mail
-use Rattle.pool_moves.specs.Logging.{cluster_jobs}
+use Rattle.pool_rules.specs.Logging.{cluster_jobs}
 use Rattle.pool_outer.specs.declared.gate.Daemon.TheVariants.{Schedd, Startd, Matchmaker}
-use Rattle.pool_pending.specs.declared.pending.Unfinished.{Unfinished}
-use Rattle.pool_pending.specs.declared.pending.Unfinished.TheVariants.{Submission, Plan}
+use Rattle.pool_parts.specs.declared.pending.Unfinished.{Unfinished}
+use Rattle.pool_parts.specs.declared.pending.Unfinished.TheVariants.{Submission, Plan}
 use Rattle.pool_state.specs.declared.state.PoolState.{PoolState}
 use Rattle.pool_view.specs.AbstractPool.{IsIn}
 use Rattle.pool_view.specs.AbstractStep.{AbstractStep, Time, Queue, Acknowledge, Order, Grant, Start, Mark, Extend, Stop, Free, Finish, Hold, Release, Lengthen}

@@ -1,8 +1,8 @@
 -- What is unfinished in a pool, and whether that can be logged.
 use Rattle.std.specs.Prelude.{IfSome}
-use Rattle.loggable.specs.Loggable.{CanBeLogged, HasShortNumbers}
-use Rattle.pool_pending.specs.declared.pending.Unfinished.{Unfinished}
-use Rattle.pool_pending.specs.declared.pending.Unfinished.TheVariants.{Submission, Plan}
+use Rattle.pool_parts.specs.Loggable.{CanBeLogged, HasShortNumbers}
+use Rattle.pool_parts.specs.declared.pending.Unfinished.{Unfinished}
+use Rattle.pool_parts.specs.declared.pending.Unfinished.TheVariants.{Submission, Plan}
 use Rattle.pool_state.specs.declared.state.PoolState.{PoolState}
 
 -- what is unfinished, if anything, can be logged over the queue

@@ -2,16 +2,16 @@
 
 ghost use Rattle.std.specs.Prelude.{◌≡◌, ℕ, List, Option, Some, None, Ok};
 ghost use Rattle.ad_tree.specs.Ad.{Attributes};
-ghost use Rattle.loggable.specs.Answers.{CanAppend};
-ghost use Rattle.loggable.specs.Loggable.{AreLoggableJobs, CanBeLogged, HasShortNumbers, IsLoggableQueue, KnowsHeader};
-ghost use Rattle.pool_event.specs.declared.answer.Stepped.{Stepped};
-ghost use Rattle.pool_event.specs.declared.event.Event.{Event};
-ghost use Rattle.pool_event.specs.declared.event.Event.TheVariants.{Submit};
-ghost use Rattle.pool_moves.specs.Happens.{Reacts};
-ghost use Rattle.pool_pending.specs.declared.pending.Pending.{Pending};
-ghost use Rattle.pool_pending.specs.declared.pending.Unfinished.TheVariants.{Plan};
+ghost use Rattle.pool_parts.specs.Appends.{CanAppend};
+ghost use Rattle.pool_parts.specs.Loggable.{AreLoggableJobs, CanBeLogged, HasShortNumbers, IsLoggableQueue, KnowsHeader};
+ghost use Rattle.pool_parts.specs.declared.answer.Stepped.{Stepped};
+ghost use Rattle.pool_parts.specs.declared.event.Event.{Event};
+ghost use Rattle.pool_parts.specs.declared.event.Event.TheVariants.{Submit};
+ghost use Rattle.pool_rules.specs.Happens.{Reacts};
+ghost use Rattle.pool_parts.specs.declared.pending.Pending.{Pending};
+ghost use Rattle.pool_parts.specs.declared.pending.Unfinished.TheVariants.{Plan};
 ghost use Rattle.pool_protocol.specs.Protocol.{Protocol};
-ghost use Rattle.pool_refusals.specs.Refusals.{IsRefusal};
+ghost use Rattle.pool_rules.specs.Refusals.{IsRefusal};
 ghost use Rattle.pool_state.specs.declared.state.PoolState.{PoolState};
 ghost use Rattle.queue_tx.specs.Queues.{KeyedAds, queue_after};
 ghost use Rattle.schedd_plan.specs.declared.plan.JobPlan.{JobPlan};

@@ -1,11 +1,11 @@
 //! What a pool counts is its own: its jobs, and the bytes of its ads.
 
 ghost use Rattle.std.specs.Prelude.{◌≡◌, ℕ, ◌+◌, List, None};
-ghost use Rattle.pool_event.specs.declared.answer.Stepped.{Stepped};
-ghost use Rattle.pool_event.specs.declared.event.Event.{Event};
-ghost use Rattle.pool_moves.specs.Happens.{Reacts};
+ghost use Rattle.pool_parts.specs.declared.answer.Stepped.{Stepped};
+ghost use Rattle.pool_parts.specs.declared.event.Event.{Event};
+ghost use Rattle.pool_rules.specs.Happens.{Reacts};
 ghost use Rattle.pool_protocol.specs.Protocol.{Protocol};
-ghost use Rattle.pool_refusals.specs.Refusals.{IsRefusal};
+ghost use Rattle.pool_rules.specs.Refusals.{IsRefusal};
 ghost use Rattle.pool_state.specs.Openings.{CanOpen, IsJobCount, IsOpenedBy};
 ghost use Rattle.pool_state.specs.declared.opening.Opening.{Opening};
 ghost use Rattle.pool_state.specs.declared.state.PoolState.{PoolState};

@@ -2,17 +2,17 @@
 
 ghost use Rattle.std.specs.Prelude.{◌≡◌, ℕ, List, Option, None};
 ghost use Rattle.ad_eval.specs.Judgement.{Judgement, Mismatch};
-ghost use Rattle.pool_event.specs.declared.answer.Answer.TheVariants.{Launch};
-ghost use Rattle.pool_event.specs.declared.answer.Stepped.{Stepped};
-ghost use Rattle.pool_event.specs.declared.event.Event.TheVariants.{Ended, Receive, Reopen, Tick};
+ghost use Rattle.pool_parts.specs.declared.answer.Answer.TheVariants.{Launch};
+ghost use Rattle.pool_parts.specs.declared.answer.Stepped.{Stepped};
+ghost use Rattle.pool_parts.specs.declared.event.Event.TheVariants.{Ended, Receive, Reopen, Tick};
 ghost use Rattle.pool_links.specs.Launched.{IsPermitOf};
 ghost use Rattle.pool_links.specs.Shown.{ShowsPool};
 ghost use Rattle.pool_mail.specs.declared.end.Ending.{Ending};
-ghost use Rattle.pool_moves.specs.Happens.{Happens};
+ghost use Rattle.pool_rules.specs.Happens.{Happens};
 ghost use Rattle.pool_safety.specs.Parts.{parts_of};
 ghost use Rattle.pool_outer.specs.declared.gate.Daemon.TheVariants.{Startd};
 ghost use Rattle.pool_protocol.specs.Protocol.{Protocol};
-ghost use Rattle.pool_refusals.specs.Refusals.{IsEventRefusal};
+ghost use Rattle.pool_rules.specs.Refusals.{IsEventRefusal};
 ghost use Rattle.pool_state.specs.declared.state.PoolState.{PoolState};
 ghost use Rattle.pool_view.specs.AbstractPool.{AbstractPool};
 ghost use Rattle.queue_tx.specs.Operations.{Operation};

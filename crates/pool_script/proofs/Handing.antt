@@ -1,11 +1,11 @@
 -- The receipt that comes back of an event has the mark of the pool's log.
 use Rattle.std.proofs.Common.{List, Option, Some, None, ◌∙◌}
 use Rattle.std.specs.Prelude.{IfSome}
-use Rattle.pool_event.specs.declared.event.Event.{Event}
-use Rattle.pool_event.specs.declared.event.Event.TheVariants as event
-use Rattle.pool_event.specs.Events.{receipt_of}
+use Rattle.pool_parts.specs.declared.event.Event.{Event}
+use Rattle.pool_parts.specs.declared.event.Event.TheVariants as event
+use Rattle.pool_parts.specs.Events.{receipt_of}
 use Rattle.pool_lines.specs.Marks.{HasMarks, IsMarked, RollMarks}
-use Rattle.pool_moves.specs.Given.{IsGiven, IsOfLog}
+use Rattle.pool_rules.specs.Given.{IsGiven, IsOfLog}
 use Rattle.pool_state.specs.declared.state.PoolState.{PoolState}
 use Rattle.queue_tx.specs.Operations.{Operation}
 use Rattle.receipt_roll.specs.Values.{ReceiptValue}

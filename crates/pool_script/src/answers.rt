@@ -3,8 +3,8 @@
 use cases::{CaseError, escape};
 use claim_id::{JobId, RunNo};
 use daemon_texts::{write_job, write_launch, write_run, write_runs};
-use pool_event::Answer;
 use pool_outer::Launch;
+use pool_parts::Answer;
 use queue_record::{PrintError, print_tx};
 use queue_tx::Tx;
 use startd_core::{Permit, RunList};

@@ -9,10 +9,10 @@ use ad_value::{Copied, Memory};
 use cases::{Case, CaseError};
 use claim_id::{JobId, SlotId};
 use pool_core::Pool;
-use pool_event::{Event, JudgedList, Look};
 use pool_lines::{Evidence, Fields, evidence_of, judge_pair, memory, read_ads};
 use pool_mail::{Mail, Match, MatchList, Request, SlotAd};
 use pool_outer::Daemon;
+use pool_parts::{Event, JudgedList, Look};
 use pool_tables::MailError;
 use startd_slot::claim_of;
 use std::alloc::Global;
@@ -147,7 +147,7 @@ impl Drop for Found {
 impl Model for Found {
     ghost use Rattle.std.specs.Prelude.{List};
     ghost use Rattle.pool_mail.specs.declared.matching.Match.{Match};
-    ghost use Rattle.pool_moves.specs.Given.{AreNumbered};
+    ghost use Rattle.pool_rules.specs.Given.{AreNumbered};
 
     ghost Value = { List Match };
 

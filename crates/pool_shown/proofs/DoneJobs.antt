@@ -3,8 +3,8 @@ use Rattle.std.proofs.Common.{◌≡◌, ◌<◌, length, List, [], ◌∷◌, �
 use Rattle.std.specs.Prelude.{filter_map, find}
 use Rattle.std.specs.List.Sorted.{IsStrictlySortedBy}
 use Rattle.std.specs.Map.{keys_of}
-use Rattle.pool_past.specs.declared.finished.FinishedJob.{FinishedJob}
-use Rattle.pool_past.proofs.Walks.{all_at_first, fewer_next, next_first, none_next, rest_of}
+use Rattle.pool_parts.specs.declared.finished.FinishedJob.{FinishedJob}
+use Rattle.pool_parts.proofs.Walks.{all_at_first, fewer_next, next_first, none_next, rest_of}
 use Rattle.pool_shown.proofs.Steps.{first_entry}
 use Rattle.pool_shown.specs.ShownJobs.{done_by, done_entry, one_entry}
 use Rattle.pool_view.specs.declared.job.JobEntry.{JobEntry}

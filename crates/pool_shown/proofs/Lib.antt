@@ -1,3 +1,4 @@
+pub mod AdsInOrder
 mod CoreNames
 mod DoneJobs
 mod Steps

@@ -5,7 +5,7 @@ use Rattle.std.proofs.lemmas.List.{map-append}
 use Rattle.std.proofs.lemmas.List.Elements.{filter_map-append}
 use Rattle.std.specs.Prelude.{filter_map}
 use Rattle.claim_id.specs.declared.numbers.JobId.{JobId}
-use Rattle.pool_machines.specs.Slots.{all_slots}
+use Rattle.pool_shown.specs.Slots.{all_slots}
 use Rattle.pool_shown.specs.declared.slots.ShownSlots.{ShownSlots}
 use Rattle.pool_shown.specs.ShownJobs.{one_entry}
 use Rattle.pool_shown.specs.ShownSlots.{ad_on, mark_on, run_on, shown_slots, with_slots}

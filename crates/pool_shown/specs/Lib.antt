@@ -1,2 +1,3 @@
 pub mod ShownJobs
 pub mod ShownSlots
+pub mod Slots

@@ -4,8 +4,8 @@ use Rattle.ad_tree.specs.Ad.{Attributes}
 use Rattle.claim_id.specs.declared.numbers.ClaimId.{ClaimId}
 use Rattle.claim_id.specs.declared.numbers.JobId.{JobId}
 use Rattle.claim_id.specs.declared.numbers.RunNo.{RunNo}
-use Rattle.pool_jobs.specs.Listings.{AreJobs}
-use Rattle.pool_past.specs.declared.finished.FinishedJob.{FinishedJob}
+use Rattle.pool_parts.specs.Listings.{AreJobs}
+use Rattle.pool_parts.specs.declared.finished.FinishedJob.{FinishedJob}
 use Rattle.pool_view.specs.Ads.{core_of}
 use Rattle.pool_view.specs.declared.job.JobEntry.{JobEntry}
 use Rattle.pool_view.specs.declared.job.State.{State}

@@ -9,7 +9,7 @@ ghost use Rattle.pool_shown.specs.ShownJobs.{done_by, done_entry, one_entry};
 
 use crate::cores::core_ad;
 use ad_value::Memory;
-use pool_past::{Finished, FinishedJob};
+use pool_parts::{Finished, FinishedJob};
 use pool_view::{Entry, JobEntry, JobEntryList, State};
 use queue_tx::Key;
 use std::alloc::Global;

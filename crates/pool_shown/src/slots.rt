@@ -1,7 +1,7 @@
 // The runs, the marks and the ads that slots show.
 
 ghost use Rattle.std.specs.Prelude.{◌≡◌, ◌++◌, IfOk, option_map};
-ghost use Rattle.pool_machines.specs.Slots.{all_slots};
+ghost use Rattle.pool_shown.specs.Slots.{all_slots};
 ghost use Rattle.startd_slot.specs.SlotMoves.{held_mark, mark_of};
 ghost use Rattle.pool_shown.specs.ShownSlots.{boot_at, one_run, run_on, shown_slots, with_slot, with_slots};
 

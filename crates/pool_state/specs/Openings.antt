@@ -3,9 +3,9 @@ use Rattle.std.specs.Prelude.{◌≡◌, ℕ, ◌+◌, ◌*◌, ◌^◌, ◌<◌
 use Rattle.ad_tree.specs.Ad.{Attributes}
 use Rattle.claim_id.specs.declared.numbers.JobId.{JobId}
 use Rattle.claim_id.specs.declared.numbers.SlotId.{SlotId}
-use Rattle.pool_jobs.specs.Listings.{AreJobs}
-use Rattle.pool_limits.specs.declared.size.TheConstants.{MAX_BYTES}
-use Rattle.pool_limits.specs.Sizes.{queue_count}
+use Rattle.pool_parts.specs.Listings.{AreJobs}
+use Rattle.pool_parts.specs.declared.size.TheConstants.{MAX_BYTES}
+use Rattle.pool_parts.specs.Sizes.{queue_count}
 use Rattle.pool_mail.specs.declared.slot_ad.SlotAd.{SlotAd}
 use Rattle.pool_state.specs.declared.opening.Machinery.{Machinery}
 use Rattle.pool_state.specs.declared.opening.Opening.{Opening}

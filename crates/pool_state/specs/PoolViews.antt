@@ -1,7 +1,7 @@
 -- The abstract pool that a pool stands for.
 use Rattle.std.specs.Prelude.{◌≡◌, ℕ, List, Option}
 use Rattle.claim_id.specs.declared.numbers.ClaimId.{ClaimId}
-use Rattle.pool_machines.specs.Slots.{all_slots}
+use Rattle.pool_shown.specs.Slots.{all_slots}
 use Rattle.pool_shown.specs.ShownJobs.{AreShown}
 use Rattle.pool_shown.specs.ShownSlots.{shown_slots}
 use Rattle.pool_state.specs.declared.state.PoolState.{PoolState}

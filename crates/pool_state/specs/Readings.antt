@@ -2,9 +2,9 @@
 use Rattle.std.specs.Prelude.{◌≡◌, ◌⊎◌, ℕ, Bool, true, false, not, List, filter, filter_map, map, slice_get, Option, Some, None}
 use Rattle.ad_tree.specs.Ad.{Attributes}
 use Rattle.claim_id.specs.declared.numbers.JobId.{JobId}
-use Rattle.pool_event.specs.declared.look.Look.{Look}
-use Rattle.pool_jobs.specs.Listings.{AreJobs, request_at}
-use Rattle.pool_machines.specs.Slots.{all_slots, told_at}
+use Rattle.pool_parts.specs.declared.look.Look.{Look}
+use Rattle.pool_parts.specs.Listings.{AreJobs, request_at}
+use Rattle.pool_shown.specs.Slots.{all_slots, told_at}
 use Rattle.pool_mail.specs.declared.matching.Request.{Request}
 use Rattle.pool_outer.specs.declared.gate.Daemon.{Daemon}
 use Rattle.pool_outer.specs.declared.gate.Daemon.TheVariants.{Schedd, Startd, Matchmaker}

@@ -5,7 +5,7 @@ ghost use Rattle.std.specs.Option.{option_copied};
 
 use crate::state::PoolState;
 use ad_value::{Copied, Memory};
-use pool_pending::Pending;
+use pool_parts::Pending;
 use std::alloc::Global;
 use std::collections::LinkedList;
 

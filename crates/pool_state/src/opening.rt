@@ -11,12 +11,9 @@ ghost use Rattle.pool_state.specs.Openings.{AreListed, AreRemoved, CanOpen, HasN
 use crate::state::{Counts, PoolState};
 use ad_value::{Copied, Memory, Seq};
 use claim_id::{JobId, SlotId, Wish, boot_number};
-use pool_event::Allow;
-use pool_jobs::jobs_of_kind;
-use pool_limits::queue_size;
-use pool_machines::Machines;
 use pool_mail::{Ending, Settings, SlotAd, SlotAdList};
-use pool_past::Finished;
+use pool_parts::{Allow, Finished, jobs_of_kind, queue_size};
+use pool_shown::Machines;
 use pool_tables::{Daemons, Mails, Orders};
 use queue_tx::{JobKind, Key, Queue, Tx};
 use receipt_roll::Mark;

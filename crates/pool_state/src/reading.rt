@@ -1,8 +1,8 @@
 // What is read of a pool.
 
 ghost use Rattle.std.specs.Prelude.{◌≡◌, ◌≢◌, ◌⊎◌, ◌++◌, ◌∷◌, [], filter, if◌then◌else◌, not, false, IfErr, IfOk, IfSome, IsErrOf, IsSome, None, OnErr, Some, slice_get, true};
-ghost use Rattle.pool_machines.specs.Slots.{slot_at};
-ghost use Rattle.pool_past.specs.Clusters.{IsNextCluster};
+ghost use Rattle.pool_shown.specs.Slots.{slot_at};
+ghost use Rattle.pool_parts.specs.Clusters.{IsNextCluster};
 ghost use Rattle.pool_state.specs.PoolJobs.{has_job, is_engaged};
 ghost use Rattle.pool_state.specs.Readings.{AreWanted, IsCheckDue, IsDue, IsDueUp, IsLook, IsSomeCheckDue, ad_of_slot, boot_of, hangs_on_slot, hangs_at, is_schedd_up, is_startd_due};
 ghost use Rattle.pool_tables.specs.declared.refusal.MailError.TheVariants as error;
@@ -14,11 +14,9 @@ use crate::state::PoolState;
 use ad_tree::Ad;
 use ad_value::{Copied, Memory};
 use claim_id::{JobId, SlotId};
-use pool_event::Look;
-use pool_jobs::{jobs_of_kind, requests_of};
 use pool_mail::{Mail, RequestList};
 use pool_outer::Daemon;
-use pool_past::{is_finished, next_cluster};
+use pool_parts::{Look, is_finished, jobs_of_kind, next_cluster, requests_of};
 use pool_tables::MailError;
 use queue_tx::{JobKind, Key, kind_of};
 use startd_core::is_tick_tried;

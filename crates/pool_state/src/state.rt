@@ -2,10 +2,9 @@
 
 use ad_value::Seq;
 use claim_id::JobId;
-use pool_machines::Machines;
 use pool_mail::{Ending, Settings};
-use pool_past::Finished;
-use pool_pending::Pending;
+use pool_parts::{Finished, Pending};
+use pool_shown::Machines;
 use pool_tables::{Daemons, Mails, Orders};
 use pool_view::EndReport;
 use queue_tx::{Queue, Tx};

@@ -1,7 +1,7 @@
 -- What startds do to a pool, by what is ready.
 use Rattle.std.proofs.Common.{◌≡◌, ℕ, List, [], Option, Some, None, IsSomeAnd, ap, refl, ◌∙◌}
 use Rattle.ad_eval.specs.Judgement.{Judgement}
-use Rattle.pool_event.specs.declared.answer.Stepped.{Stepped}
+use Rattle.pool_parts.specs.declared.answer.Stepped.{Stepped}
 use Rattle.pool_state.specs.declared.state.PoolState.{PoolState}
 use Rattle.pool_view.specs.declared.run.EndReport.{EndReport}
 use Rattle.pool_tables.specs.declared.sent.Sent.{Sent}
@@ -9,9 +9,9 @@ use Rattle.startd_core.specs.declared.answer.StartdStep.{StartdStep}
 use Rattle.startd_core.specs.Startds.{After, StartdValue, after_mail}
 use Rattle.startd_core.specs.PreparedStartds.{startd_after}
 use Rattle.pool_steps.specs.declared.startds.StartdDeed.{StartdDeed}
-use Rattle.pool_moves.specs.Deeds.{receives, startd_acts, startd_answer}
+use Rattle.pool_rules.specs.Deeds.{receives, startd_acts, startd_answer}
 use Rattle.pool_steps.specs.Ready.{IsStartdDeed}
-use Rattle.pool_moves.specs.Startds.{IsReceivedStep, IsStartdStep}
+use Rattle.pool_rules.specs.Startds.{IsReceivedStep, IsStartdStep}
 
 pub startd_alike : (machine : ℕ) (v w : StartdValue) (s t : StartdStep) (xs ys : List EndReport) (pool : PoolState) → v ≡ w → s ≡ t → xs ≡ ys → startd_acts machine v s xs pool ≡ startd_acts machine w t ys pool
 startd_alike machine v w s t xs ys pool a b d =

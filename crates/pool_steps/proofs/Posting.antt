@@ -5,8 +5,8 @@ use Rattle.pool_mail.specs.declared.mail.Mail.{Mail}
 use Rattle.pool_mail.specs.declared.matching.Match.{Match}
 use Rattle.pool_tables.specs.declared.sent.Sent.{Sent}
 use Rattle.pool_tables.specs.MailLists.{MailsValue, receiver_of, with_mail, with_mails}
-use Rattle.pool_moves.specs.Deeds.{posted, posts, rested, sends}
-use Rattle.pool_moves.specs.Masters.{mails_at, mails_of_matches, match_mails}
+use Rattle.pool_rules.specs.Deeds.{posted, posts, rested, sends}
+use Rattle.pool_rules.specs.Masters.{mails_at, mails_of_matches, match_mails}
 
 pub posted_all : (ms : List Mail) (m : MailsValue) → rested (with_mails ms m) ≡ posts ms m
 posted_all [] m = ap (λ (l : List Sent). record m { sent = l; spare = 0 }) (sym (append-nil m.sent))

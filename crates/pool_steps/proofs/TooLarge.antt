@@ -3,15 +3,15 @@ use Rattle.std.proofs.Common.{◌≡◌, ℕ, ◌+◌, ◌<◌, List, [], Option
 use Rattle.ad_eval.specs.Judgement.{Judgement}
 use Rattle.claim_id.specs.declared.numbers.JobId.{JobId}
 use Rattle.claim_id.specs.declared.order.Verb.{Verb}
-use Rattle.pool_event.specs.declared.answer.Answer.TheVariants as answer
-use Rattle.pool_limits.specs.Sizes.{mails_count}
-use Rattle.pool_limits.specs.declared.size.TheConstants.{MAX_BYTES}
-use Rattle.pool_moves.specs.Answers.{answered}
-use Rattle.pool_moves.specs.Deeds.{at_rest, receives, startd_acts, startd_answer}
-use Rattle.pool_moves.specs.Happens.{IsDone}
-use Rattle.pool_moves.specs.Limits.{IsTooLarge}
-use Rattle.pool_moves.specs.Masters.{gives}
-use Rattle.pool_moves.specs.Startds.{IsReceivedStep, IsStartdStep}
+use Rattle.pool_parts.specs.declared.answer.Answer.TheVariants as answer
+use Rattle.pool_parts.specs.Sizes.{mails_count}
+use Rattle.pool_parts.specs.declared.size.TheConstants.{MAX_BYTES}
+use Rattle.pool_rules.specs.Answers.{answered}
+use Rattle.pool_rules.specs.Deeds.{at_rest, receives, startd_acts, startd_answer}
+use Rattle.pool_rules.specs.Happens.{IsDone}
+use Rattle.pool_rules.specs.Limits.{IsTooLarge}
+use Rattle.pool_rules.specs.Masters.{gives}
+use Rattle.pool_rules.specs.Startds.{IsReceivedStep, IsStartdStep}
 use Rattle.pool_state.specs.declared.state.PoolState.{PoolState}
 use Rattle.pool_tables.specs.declared.sent.Sent.{Sent}
 use Rattle.pool_view.specs.declared.run.EndReport.{EndReport}

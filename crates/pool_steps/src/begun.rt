@@ -1,12 +1,11 @@
 // A transaction that is to be logged.
 
 ghost use Rattle.std.specs.Prelude.{◌≡◌, IfOk, Some};
-ghost use Rattle.pool_moves.specs.Answers.{answered, pending_tx};
-ghost use Rattle.pool_event.specs.declared.answer.Answer.TheVariants as answer;
+ghost use Rattle.pool_rules.specs.Answers.{answered, pending_tx};
+ghost use Rattle.pool_parts.specs.declared.answer.Answer.TheVariants as answer;
 
 use ad_value::{Copied, Memory};
-use pool_event::{Answer, Kept, Stepped};
-use pool_pending::{Pending, Unfinished};
+use pool_parts::{Answer, Kept, Pending, Stepped, Unfinished};
 use queue_tx::Tx;
 use std::alloc::Global;
 use std::marker::Model;
@@ -32,8 +31,8 @@ impl Drop for Begun {
 impl Model for Begun {
     ghost use Rattle.std.specs.Coded.{codes};
     ghost use Rattle.std.specs.Prelude.{◌≡◌};
-    ghost use Rattle.pool_pending.specs.contracts.pending.Pending as of_pending;
-    ghost use Rattle.pool_pending.specs.declared.pending.Pending.{Pending};
+    ghost use Rattle.pool_parts.specs.contracts.pending.Pending as of_pending;
+    ghost use Rattle.pool_parts.specs.declared.pending.Pending.{Pending};
 
     ghost Value = { Pending };
 

@@ -2,9 +2,9 @@
 
 ghost use Rattle.std.specs.Prelude.{◌≡◌, ◌+◌, ◌<◌, ◌^◌, ◌++◌, ◌∷◌, [], IfOk, OnOk};
 ghost use Rattle.pool_steps.specs.Growing.{HasPlaces};
-ghost use Rattle.pool_moves.specs.Logging.{cluster_jobs};
-ghost use Rattle.pool_moves.specs.Schedds.{jobs_in};
-ghost use Rattle.pool_moves.specs.Startds.{reports_in};
+ghost use Rattle.pool_rules.specs.Logging.{cluster_jobs};
+ghost use Rattle.pool_rules.specs.Schedds.{jobs_in};
+ghost use Rattle.pool_rules.specs.Startds.{reports_in};
 
 use ad_value::Memory;
 use claim_id::JobId;

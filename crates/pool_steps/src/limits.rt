@@ -1,12 +1,12 @@
 // How many bytes of ads a pool may have.
 
 ghost use Rattle.std.specs.Prelude.{◌≡◌, ◌+◌, ◌<◌, ◌≤◌, IfErr, IfOk, OnErr};
-ghost use Rattle.pool_limits.specs.Sizes.{mails_count};
-ghost use Rattle.pool_limits.specs.declared.size.TheConstants.{MAX_BYTES};
+ghost use Rattle.pool_parts.specs.Sizes.{mails_count};
+ghost use Rattle.pool_parts.specs.declared.size.TheConstants.{MAX_BYTES};
 ghost use Rattle.pool_tables.specs.declared.refusal.StepError.TheVariants as error;
 
-use pool_limits::{MAX_BYTES, mails_size};
 use pool_mail::Mail;
+use pool_parts::{MAX_BYTES, mails_size};
 use pool_tables::StepError;
 
 /// So many bytes of ads, where a pool may have them; else Bytes. Computes in O(1).

@@ -1,10 +1,10 @@
 // What the master and the matchmaker do.
 
 ghost use Rattle.std.specs.Prelude.{◌≡◌, ◌+◌, ◌≤◌, ◌*◌, Err, length, position, slice_get, IfErr, IfOk, OnErr, OnOk};
-ghost use Rattle.pool_moves.specs.Deeds.{at_rest, rested, sends};
-ghost use Rattle.pool_moves.specs.Happens.{IsDone};
-ghost use Rattle.pool_moves.specs.Limits.{IsLimit, IsTooLarge, IsWithin};
-ghost use Rattle.pool_moves.specs.Masters.{gives, mails_at, match_mails, mails_of_matches, passes};
+ghost use Rattle.pool_rules.specs.Deeds.{at_rest, rested, sends};
+ghost use Rattle.pool_rules.specs.Happens.{IsDone};
+ghost use Rattle.pool_rules.specs.Limits.{IsLimit, IsTooLarge, IsWithin};
+ghost use Rattle.pool_rules.specs.Masters.{gives, mails_at, match_mails, mails_of_matches, passes};
 ghost use Rattle.pool_tables.specs.OrderTables.{is_due_for};
 ghost use Rattle.pool_tables.specs.declared.refusal.StepError.TheVariants as error;
 
@@ -12,9 +12,9 @@ use crate::begun::nothing_asked;
 use crate::limits::limited;
 use ad_value::Memory;
 use claim_id::{JobId, Verb};
-use pool_event::Stepped;
 use pool_mail::{Mail, Match};
 use pool_outer::Daemon;
+use pool_parts::Stepped;
 use pool_state::PoolState;
 use pool_tables::{Mails, StepError, order_mail};
 

@@ -1,8 +1,9 @@
 pub mod Errors
-pub mod Stands
-pub mod NewLog
-pub mod Writable
-pub mod Logged
 pub mod Files
+pub mod Logged
 pub mod Logs
+pub mod Moments
+pub mod NewLog
 pub mod Reattaching
+pub mod Stands
+pub mod Writable

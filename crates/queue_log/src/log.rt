@@ -7,19 +7,19 @@ ghost use Rattle.queue_tx.specs.Operations.{Operation};
 ghost use Rattle.queue_tx.specs.Printable.{HasPrintableKeys, IsPrintable};
 ghost use Rattle.queue_tx.specs.Queues.{KeyedAds, QueueOf, queue_after};
 ghost use Rattle.queue_record.specs.Texts.{first_long, tx_text};
-ghost use Rattle.solid_file.specs.Moments.{LeavesOnly};
+ghost use Rattle.queue_log.specs.Moments.{LeavesOnly};
 ghost use Rattle.queue_log.specs.declared.log.Halt.{Halt};
 ghost use Rattle.queue_log.specs.Logs.{IsAppended, IsAppendRefused, IsTorn, IsWhole, StandsDurably, StandsForLog, receipt_of};
 ghost use Rattle.queue_log.specs.Stands.{IsBeforeOrAfter};
 ghost use Rattle.queue_log.specs.Writable.{IsWritableQueue};
 
+use crate::append_solid;
 use crate::error::LogError;
 use crate::logged::Logged;
 use ad_value::Text;
 use pool_outer::{Store, StoreError};
 use queue_tx::{Queue, Tx};
 use receipt_roll::{Receipt, Roll};
-use solid_file::append_solid;
 use std::alloc::Global;
 use std::marker::Model;
 

@@ -3,7 +3,7 @@
 ghost use Rattle.std.specs.Prelude.{◌≡◌, ◌⊎◌, ◌<◌, ◌≤◌, ◌^◌, ℕ, List, true, None, Some, length, IfOk, IfErr, IfSome, OnOk, OnErr};
 ghost use Rattle.std.specs.Option.{option_map};
 ghost use Rattle.pool_outer.specs.Files.{bytes_in, Leaves};
-ghost use Rattle.solid_file.specs.Moments.{KeepsFile, LeavesOnly};
+ghost use Rattle.queue_log.specs.Moments.{KeepsFile, LeavesOnly};
 ghost use Rattle.receipt_roll.specs.declared.roll.TheConstants.{MAX_ITEMS};
 ghost use Rattle.queue_log.specs.Files.{IsReadOf, IsReadRefusal};
 ghost use Rattle.queue_log.specs.Logged.{IsLogged, IsNext};
@@ -11,6 +11,7 @@ ghost use Rattle.queue_log.specs.Logs.{StandsDurably, StandsForLog};
 ghost use Rattle.queue_log.specs.Reattaching.{IsFound, IsReattached, IsReattachRefused, IsReread, IsRereadRefused};
 ghost use Rattle.queue_log.specs.Stands.{bad_line};
 
+use crate::cut_behind;
 use crate::error::LogError;
 use crate::log::Log;
 use crate::logged::{Logged, More};
@@ -19,7 +20,6 @@ use pool_outer::Store;
 use queue_record::ReadLog;
 use queue_tx::Tx;
 use receipt_roll::Receipt;
-use solid_file::cut_behind;
 use std::alloc::Global;
 
 impl<D: Store> Log<D> {

@@ -2,7 +2,7 @@ ghost use Rattle.std.specs.Prelude.{◌≡◌, ◌<◌, ◌≤◌, ℕ, List, tr
 ghost use Rattle.std.specs.Option.{option_map};
 ghost use Rattle.pool_outer.specs.declared.clock.TheConstants.{LAST_READING};
 ghost use Rattle.pool_outer.specs.Files.{bytes_in};
-ghost use Rattle.solid_file.specs.Moments.{LeavesOnly};
+ghost use Rattle.queue_log.specs.Moments.{LeavesOnly};
 ghost use Rattle.queue_log.specs.Logged.{IsLogged, IsTooMany};
 ghost use Rattle.queue_log.specs.Logs.{IsOpened, IsRecovered, IsRecoverRefused, IsUncut, LeavesOpening, StandsForOpening, recovered_store};
 
@@ -11,11 +11,11 @@ use crate::log::Log;
 use crate::logged::Logged;
 use crate::new_log::new_log;
 use crate::read::read_log;
+use crate::{append_solid, cut_behind};
 use ad_value::Text;
 use pool_outer::{Store, StoreError};
 use queue_record::ReadLog;
 use queue_tx::{Queue, TxList};
-use solid_file::{append_solid, cut_behind};
 use std::alloc::Global;
 
 /// What a log begins with.

@@ -1,10 +1,10 @@
 -- What was counted for what is logged.
 use Rattle.std.proofs.Common.{◌≡◌, ℕ, ◌+◌, None, ap, ◌∙◌}
 use Rattle.schedd_steps.specs.declared.logging.CountDeed.{CountDeed}
-use Rattle.pool_pending.specs.declared.pending.Unfinished.{Unfinished}
+use Rattle.pool_parts.specs.declared.pending.Unfinished.{Unfinished}
 use Rattle.pool_state.specs.declared.state.PoolState.{PoolState}
 use Rattle.queue_tx.specs.Queues.{KeyedAds}
-use Rattle.pool_moves.specs.Logging.{Leaver, jobs_after, with_leaver}
+use Rattle.pool_rules.specs.Logging.{Leaver, jobs_after, with_leaver}
 use Rattle.schedd_steps.specs.Counting.{with_counts}
 
 -- as a transaction that is logged leaves a pool, with so many bytes

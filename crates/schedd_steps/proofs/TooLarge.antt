@@ -1,11 +1,11 @@
 -- What an event of the schedd would make of a pool where that has too many bytes of ads.
 use Rattle.std.proofs.Common.{ℕ, ◌+◌, ◌<◌, Bool, [], Option, Some, None, IsSomeAnd, refl}
 use Rattle.claim_id.specs.declared.numbers.JobId.{JobId}
-use Rattle.pool_limits.specs.Sizes.{mails_count}
-use Rattle.pool_limits.specs.declared.size.TheConstants.{MAX_BYTES}
-use Rattle.pool_moves.specs.Deeds.{at_rest, schedd_acts, schedd_answer}
-use Rattle.pool_moves.specs.Limits.{IsTooLarge}
-use Rattle.pool_moves.specs.Schedds.{ScheddLooks, ScheddReceives, ScheddTicks, after_look, after_receipt_of}
+use Rattle.pool_parts.specs.Sizes.{mails_count}
+use Rattle.pool_parts.specs.declared.size.TheConstants.{MAX_BYTES}
+use Rattle.pool_rules.specs.Deeds.{at_rest, schedd_acts, schedd_answer}
+use Rattle.pool_rules.specs.Limits.{IsTooLarge}
+use Rattle.pool_rules.specs.Schedds.{ScheddLooks, ScheddReceives, ScheddTicks, after_look, after_receipt_of}
 use Rattle.pool_state.specs.declared.state.PoolState.{PoolState}
 use Rattle.pool_tables.specs.declared.sent.Sent.{Sent}
 use Rattle.queue_tx.specs.Queues.{IsQueue}

@@ -1,12 +1,12 @@
 -- What comes of the unfinished transaction, by what is ready.
 use Rattle.std.proofs.Common.{◌≡◌, ℕ, ◌<◌, List, ◌++◌, Option, Some, None, IsSomeAnd, refl, ap, sym, subst, ◌∙◌}
 use Rattle.claim_id.specs.declared.numbers.ClaimId.{ClaimId}
-use Rattle.pool_event.specs.declared.answer.Answer.TheVariants as answer
-use Rattle.pool_event.specs.declared.answer.Stepped.{Stepped}
-use Rattle.pool_limits.specs.declared.size.TheConstants.{MAX_BYTES}
-use Rattle.pool_pending.specs.declared.pending.Pending.{Pending}
-use Rattle.pool_pending.specs.declared.pending.Unfinished.{Unfinished}
-use Rattle.pool_pending.specs.declared.pending.Unfinished.TheVariants.{Submission, Plan}
+use Rattle.pool_parts.specs.declared.answer.Answer.TheVariants as answer
+use Rattle.pool_parts.specs.declared.answer.Stepped.{Stepped}
+use Rattle.pool_parts.specs.declared.size.TheConstants.{MAX_BYTES}
+use Rattle.pool_parts.specs.declared.pending.Pending.{Pending}
+use Rattle.pool_parts.specs.declared.pending.Unfinished.{Unfinished}
+use Rattle.pool_parts.specs.declared.pending.Unfinished.TheVariants.{Submission, Plan}
 use Rattle.pool_state.specs.declared.state.PoolState.{PoolState}
 use Rattle.queue_tx.specs.declared.key.Key.TheVariants.{Proc}
 use Rattle.queue_tx.specs.Queues.{KeyedAds, with_changes}
@@ -16,11 +16,11 @@ use Rattle.schedd_state.specs.Reopening.{IsReader}
 use Rattle.schedd_state.specs.Schedds.{ScheddValue}
 use Rattle.schedd_plan.specs.declared.plan.JobPlan.{JobPlan}
 use Rattle.schedd_steps.specs.declared.logging.LogDeed.{LogDeed}
-use Rattle.pool_moves.specs.Answers.{answered}
-use Rattle.pool_moves.specs.Deeds.{at_rest}
-use Rattle.pool_moves.specs.Happens.{IsDone}
-use Rattle.pool_moves.specs.Limits.{IsTooLarge}
-use Rattle.pool_moves.specs.Logging.{IsBackWith, IsBackWithout, IsLogged, after_unfinished, cluster_jobs, leaver_of, with_logged, with_plan, with_submission}
+use Rattle.pool_rules.specs.Answers.{answered}
+use Rattle.pool_rules.specs.Deeds.{at_rest}
+use Rattle.pool_rules.specs.Happens.{IsDone}
+use Rattle.pool_rules.specs.Limits.{IsTooLarge}
+use Rattle.pool_rules.specs.Logging.{IsBackWith, IsBackWithout, IsLogged, after_unfinished, cluster_jobs, leaver_of, with_logged, with_plan, with_submission}
 use Rattle.schedd_steps.specs.Counting.{IsBackTooLarge, bytes_after, bytes_planned, submitted, with_counts}
 use Rattle.schedd_steps.specs.Ready.{IsLogDeed}
 use Rattle.schedd_steps.proofs.Counted.{counted_as, logged_with}

@@ -1,9 +1,9 @@
 -- What becomes of a pool whose unfinished transaction is in the log, by what was counted for it.
 use Rattle.std.specs.Prelude.{ℕ, ◌+◌, ◌-◌, ◌++◌, ◌<◌, None}
-use Rattle.pool_limits.specs.Sizes.{mails_count, queue_count}
-use Rattle.pool_limits.specs.declared.size.TheConstants.{MAX_BYTES}
-use Rattle.pool_moves.specs.Deeds.{posts}
-use Rattle.pool_moves.specs.Logging.{cluster_jobs, with_leaver}
+use Rattle.pool_parts.specs.Sizes.{mails_count, queue_count}
+use Rattle.pool_parts.specs.declared.size.TheConstants.{MAX_BYTES}
+use Rattle.pool_rules.specs.Deeds.{posts}
+use Rattle.pool_rules.specs.Logging.{cluster_jobs, with_leaver}
 use Rattle.pool_state.specs.declared.state.PoolState.{PoolState}
 use Rattle.queue_tx.specs.declared.key.Key.TheVariants.{Proc}
 use Rattle.queue_tx.specs.Queues.{KeyedAds}

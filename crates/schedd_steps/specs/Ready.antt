@@ -2,17 +2,17 @@
 use Rattle.std.specs.Prelude.{◌≡◌, ◌+◌, Bool, ℕ, List, Ok, Option}
 use Rattle.claim_id.specs.declared.numbers.ClaimId.{ClaimId}
 use Rattle.pool_mail.specs.declared.mail.Mail.{Mail}
-use Rattle.pool_pending.specs.declared.pending.Pending.{Pending}
+use Rattle.pool_parts.specs.declared.pending.Pending.{Pending}
 use Rattle.pool_state.specs.declared.state.PoolState.{PoolState}
-use Rattle.queue_growth.specs.Growth.{Grows}
+use Rattle.pool_parts.specs.Growth.{Grows}
 use Rattle.queue_tx.specs.Queues.{queue_after, with_changes}
 use Rattle.schedd_state.specs.Reopening.{IsReader}
 use Rattle.schedd_core.specs.Rows.{after_mail}
 use Rattle.schedd_state.specs.PreparedSchedds.{schedd_after}
 use Rattle.schedd_steps.specs.declared.logging.LogDeed.{LogDeed}
 use Rattle.schedd_steps.specs.declared.schedd.ScheddDeed.{ScheddDeed}
-use Rattle.pool_moves.specs.Deeds.{ordered_by}
-use Rattle.pool_moves.specs.Logging.{jobs_after, leaver_of}
+use Rattle.pool_rules.specs.Deeds.{ordered_by}
+use Rattle.pool_rules.specs.Logging.{jobs_after, leaver_of}
 
 -- it makes of the schedd what a mail does
 pub record IsReceiptDeed (s : PoolState) (m : Mail) (known : Bool) (reading : ℕ)

@@ -2,23 +2,22 @@
 
 ghost use Rattle.std.specs.Prelude.{◌≡◌, ◌+◌, ◌<◌, ◌≤◌, ◌^◌, Err, length, slice_get, IfErr, IfOk, IfSome, IsSomeAnd, OnErr, OnOk};
 ghost use Rattle.schedd_state.specs.PreparedSchedds.{HasClaimRoom, schedd_after};
-ghost use Rattle.pool_moves.specs.Answers.{answered, answer_with, pending_by};
-ghost use Rattle.pool_limits.specs.Sizes.{mails_count};
-ghost use Rattle.pool_limits.specs.declared.size.TheConstants.{MAX_BYTES};
+ghost use Rattle.pool_rules.specs.Answers.{answered, answer_with, pending_by};
+ghost use Rattle.pool_parts.specs.Sizes.{mails_count};
+ghost use Rattle.pool_parts.specs.declared.size.TheConstants.{MAX_BYTES};
 ghost use Rattle.pool_tables.specs.declared.refusal.StepError.TheVariants as error;
-ghost use Rattle.pool_moves.specs.Deeds.{at_rest, ordered_by, schedd_acts, schedd_answer};
-ghost use Rattle.pool_moves.specs.Limits.{IsLimit, IsTooLarge, IsWithin};
+ghost use Rattle.pool_rules.specs.Deeds.{at_rest, ordered_by, schedd_acts, schedd_answer};
+ghost use Rattle.pool_rules.specs.Limits.{IsLimit, IsTooLarge, IsWithin};
 ghost use Rattle.pool_steps.specs.Growing.{HasPlaces};
 ghost use Rattle.schedd_steps.specs.Ready.{IsReceiptDeed};
-ghost use Rattle.pool_moves.specs.Schedds.{ScheddLooks, ScheddReceives, ScheddTicks, jobs_in};
+ghost use Rattle.pool_rules.specs.Schedds.{ScheddLooks, ScheddReceives, ScheddTicks, jobs_in};
 ghost use Rattle.queue_tx.specs.Queues.{IsQueue};
 ghost use Rattle.schedd_core.specs.Rows.{after_mail};
 
 use ad_value::Memory;
 use claim_id::JobId;
-use pool_event::Stepped;
 use pool_mail::Mail;
-use pool_pending::{Pending, Unfinished, ordered_job};
+use pool_parts::{Pending, Stepped, Unfinished, ordered_job};
 use pool_state::PoolState;
 use pool_steps::{Begun, bytes_with, join, maybe_job, nothing_asked};
 use pool_tables::StepError;

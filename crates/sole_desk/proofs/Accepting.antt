@@ -6,21 +6,21 @@ use Rattle.desk.specs.Given.{IsGivenBy, IsOwn}
 use Rattle.desk.specs.Kinds.{IsKindOf}
 use Rattle.desk.specs.Logs.{IsLoggedQueue}
 use Rattle.desk.specs.Passes.{Fits}
-use Rattle.loggable.specs.Answers.{CanAppend}
-use Rattle.pool_event.specs.declared.answer.Kept.{Kept}
-use Rattle.pool_event.specs.declared.answer.Stepped.{Stepped}
-use Rattle.pool_event.specs.declared.event.Event.{Event}
-use Rattle.pool_moves.specs.Answers.{answered}
-use Rattle.pool_moves.specs.Given.{IsGiven}
-use Rattle.pool_moves.specs.Happens.{Reacts}
+use Rattle.pool_parts.specs.Appends.{CanAppend}
+use Rattle.pool_parts.specs.declared.answer.Kept.{Kept}
+use Rattle.pool_parts.specs.declared.answer.Stepped.{Stepped}
+use Rattle.pool_parts.specs.declared.event.Event.{Event}
+use Rattle.pool_rules.specs.Answers.{answered}
+use Rattle.pool_rules.specs.Given.{IsGiven}
+use Rattle.pool_rules.specs.Happens.{Reacts}
 use Rattle.pool_outer.specs.declared.gate.Daemon.{Daemon}
 use Rattle.pool_outer.specs.declared.gate.Daemon.TheVariants.{Schedd, Startd, Matchmaker}
-use Rattle.pool_passes.specs.Standing.{HasRoll, Stands, end_mark_of, logged_before, mark_or}
-use Rattle.pool_passes.proofs.Answered.{keeps_answer, kind_of}
-use Rattle.pool_passes.proofs.GivenByMarks.{own_given}
-use Rattle.pool_passes.proofs.Passes.{own_before, own_fits, own_queue, own_stands}
-use Rattle.pool_passes.proofs.Rolls.{HasSameRolls, rolls_same}
-use Rattle.pool_refusals.specs.Refusals.{IsRefusal}
+use Rattle.desk.specs.Standing.{HasRoll, Stands, end_mark_of, logged_before, mark_or}
+use Rattle.desk.proofs.Answered.{keeps_answer, kind_of}
+use Rattle.desk.proofs.GivenByMarks.{own_given}
+use Rattle.desk.proofs.Passes.{own_before, own_fits, own_queue, own_stands}
+use Rattle.desk.proofs.Rolls.{HasSameRolls, rolls_same}
+use Rattle.pool_rules.specs.Refusals.{IsRefusal}
 use Rattle.pool_state.specs.declared.state.PoolState.{PoolState}
 use Rattle.pool_tables.specs.DaemonTables.{daemon_state}
 use Rattle.queue_tx.specs.Queues.{KeyedAds}

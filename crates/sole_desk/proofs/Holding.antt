@@ -6,7 +6,7 @@ use Rattle.claim_id.specs.declared.numbers.RunNo.{RunNo}
 use Rattle.pool_core.specs.KeptPools.{IsKeptPool}
 use Rattle.pool_outer.specs.declared.gate.Daemon.{Daemon}
 use Rattle.pool_outer.specs.declared.gate.Daemon.TheVariants.{Schedd, Startd, Matchmaker}
-use Rattle.pool_passes.specs.Standing.{HasRoll, RunsStand, Stands, numbered}
+use Rattle.desk.specs.Standing.{HasRoll, RunsStand, Stands, numbered}
 use Rattle.pool_safety.proofs.PoolOpening.{so_many, startd_rests, startds_counted}
 use Rattle.pool_state.specs.Openings.{CanOpen, IsOpenedBy, opening_startds}
 use Rattle.pool_state.specs.declared.opening.Opening.{Opening}

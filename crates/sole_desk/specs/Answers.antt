@@ -2,7 +2,7 @@
 use Rattle.std.specs.Prelude.{◌≡◌, ◌≢◌, ◌⊎◌, ℕ, Bool, true, Option, Some, Result, IfErr, IfOk, IfSome, IsErrOf}
 use Rattle.claim_id.specs.declared.numbers.JobId.{JobId}
 use Rattle.pool_core.specs.Refused.{IsRefused}
-use Rattle.pool_event.specs.declared.event.Event.{Event}
+use Rattle.pool_parts.specs.declared.event.Event.{Event}
 use Rattle.pool_mail.specs.declared.mail.Mail.{Mail}
 use Rattle.pool_outer.specs.declared.gate.Daemon.{Daemon}
 use Rattle.pool_state.specs.declared.state.PoolState.{PoolState}

@@ -2,12 +2,12 @@
 use Rattle.std.specs.Prelude.{◌≡◌, ℕ, Bool, List, [], ◌∷◌, ◌++◌, Option, Some, None, IfSome, IsSome, slice_get}
 use Rattle.desk.specs.declared.entry.Entry.{Entry}
 use Rattle.desk.specs.Entries.{entry_of}
-use Rattle.pool_event.specs.declared.answer.Answer.{Answer}
-use Rattle.pool_event.specs.declared.event.Event.{Event}
-use Rattle.pool_event.specs.Answers.{kept_of}
+use Rattle.pool_parts.specs.declared.answer.Answer.{Answer}
+use Rattle.pool_parts.specs.declared.event.Event.{Event}
+use Rattle.pool_parts.specs.Answers.{kept_of}
 use Rattle.pool_outer.specs.declared.gate.Daemon.{Daemon}
 use Rattle.pool_outer.specs.declared.gate.Daemon.TheVariants.{Startd}
-use Rattle.pool_passes.specs.Standing.{HasRoll, Stands}
+use Rattle.desk.specs.Standing.{HasRoll, Stands}
 use Rattle.pool_state.specs.declared.state.PoolState.{PoolState}
 use Rattle.pool_tables.specs.DaemonTables.{daemon_state}
 use Rattle.startd_core.specs.Startds.{StartdValue}

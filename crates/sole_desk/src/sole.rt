@@ -1,8 +1,8 @@
 ghost use Rattle.std.specs.Prelude.{◌≡◌};
 ghost use Rattle.sole_desk.specs.Answers.{IsBootHere, IsCheckHere, IsDueHere, IsMailHere, IsNextHere, IsRefusedHere};
-ghost use Rattle.pool_machines.specs.Slots.{slot_at};
-ghost use Rattle.pool_past.specs.Clusters.{IsNextCluster};
-ghost use Rattle.pool_passes.specs.Standing.{end_mark_of, logged_before};
+ghost use Rattle.pool_shown.specs.Slots.{slot_at};
+ghost use Rattle.pool_parts.specs.Clusters.{IsNextCluster};
+ghost use Rattle.desk.specs.Standing.{end_mark_of, logged_before};
 ghost use Rattle.pool_state.specs.Readings.{AreWanted, IsLook, ad_of_slot};
 
 use crate::pass::SolePass;
@@ -10,9 +10,9 @@ use ad_tree::Ad;
 use ad_value::Memory;
 use claim_id::{JobId, SlotId};
 use desk::Desk;
-use pool_event::{Answer, Event, Look};
 use pool_mail::{Mail, RequestList};
 use pool_outer::Daemon;
+use pool_parts::{Answer, Event, Look};
 use pool_tables::{MailError, StepError};
 use std::alloc::Global;
 

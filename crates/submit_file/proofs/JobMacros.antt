@@ -9,7 +9,7 @@ use Rattle.std.proofs.lemmas.Bool.{lt-ltb, le-ltb, ltb-true, ltb-false}
 use Rattle.ad_value.specs.Names.{lowercase}
 use Rattle.line_text.specs.Macros.{Macros, with_macro, names, value_at}
 use Rattle.submit_file.specs.JobMacros.{job_macros, variable_of, AreJobMacros, blocked}
-use Rattle.submit_job.specs.Plans.{macro_value, Spares}
+use Rattle.submit_file.specs.Plans.{macro_value, Spares}
 
 -- ---- a name that is set again
 

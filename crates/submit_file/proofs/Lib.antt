@@ -1,8 +1,12 @@
-pub mod MadeJobs
 pub mod JobMacros
 pub mod Kept
+pub mod MadeJobs
 pub mod Names
 pub mod OneResult
 pub mod OtherReadings
+pub mod Places
+pub mod Puts
 pub mod Readings
+pub mod Spared
 pub mod Submitted
+pub mod Takings

@@ -3,11 +3,11 @@ use Rattle.std.proofs.Common.{◌≡◌, ℕ, zero, suc, ◌+◌, ◌-◌, ◌<�
 use Rattle.std.specs.Prelude.{decimal}
 use Rattle.ad_tree.specs.Ad.{Attributes}
 use Rattle.line_text.specs.Macros.{Macros}
-use Rattle.submit_job.specs.declared.error.SubmitError.{SubmitError}
-use Rattle.submit_job.specs.declared.error.SubmitError.TheVariants as error
-use Rattle.submit_job.specs.declared.setting.LinesSoFar.{LinesSoFar}
-use Rattle.submit_job.specs.Errors.{UnlessMemory}
-use Rattle.submit_job.specs.OneJob.{Common, IsJob}
+use Rattle.submit_file.specs.declared.error.SubmitError.{SubmitError}
+use Rattle.submit_file.specs.declared.error.SubmitError.TheVariants as error
+use Rattle.submit_file.specs.declared.setting.LinesSoFar.{LinesSoFar}
+use Rattle.submit_file.specs.Errors.{UnlessMemory}
+use Rattle.submit_file.specs.OneJob.{Common, IsJob}
 use Rattle.submit_file.specs.JobMacros.{job_macros}
 use Rattle.submit_file.specs.SubmittedJobs.{MakesJobs, stops, and_job, AddsJobs, over_items}
 

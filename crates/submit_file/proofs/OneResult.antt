@@ -15,15 +15,15 @@ use Rattle.submit_lines.specs.declared.queue.Queue.{Queue}
 use Rattle.submit_lines.specs.Lines as meaning
 use Rattle.submit_lines.specs.Lines.{LineMeaning, LineResult, line_of}
 use Rattle.submit_lines.specs.Queue.{queue_of}
-use Rattle.submit_job.specs.declared.error.SubmitError.{SubmitError}
-use Rattle.submit_job.specs.declared.error.SubmitError.TheVariants as error
+use Rattle.submit_file.specs.declared.error.SubmitError.{SubmitError}
+use Rattle.submit_file.specs.declared.error.SubmitError.TheVariants as error
 use Rattle.submit_file.specs.declared.file.FileSoFar.{FileSoFar}
-use Rattle.submit_job.specs.declared.setting.LinesSoFar.{LinesSoFar}
-use Rattle.submit_job.specs.Errors.{Replaced, replaced, refused}
+use Rattle.submit_file.specs.declared.setting.LinesSoFar.{LinesSoFar}
+use Rattle.submit_file.specs.Errors.{Replaced, replaced, refused}
 use Rattle.submit_file.specs.SubmittedJobs.{line_error, AdsResult, MakesJobs, jobs_end, stops, and_job, Asks, too_many, no_program, no_jobs, jobs, Queues, unreadable, no_form, asks, Reads, ended, no_queue, refuses, sets, sets_attribute, refuses_queue, queues, with_name, with_attribute_line, with_ads, SubmittedJobs}
-use Rattle.submit_job.specs.Drafts.{JobDraft, Effect, with_effect, ad_of}
-use Rattle.submit_job.specs.Origins.{Origin}
-use Rattle.submit_job.specs.OneJob.{Common, place_of, effect_at, Gives, nothing_set, is_set, Takes, takes, TakesAll, all_taken, and_takes, origins, queued, Fills, fills, IsJob, is_job}
+use Rattle.submit_file.specs.Drafts.{JobDraft, Effect, with_effect, ad_of}
+use Rattle.submit_file.specs.Origins.{Origin}
+use Rattle.submit_file.specs.OneJob.{Common, place_of, effect_at, Gives, nothing_set, is_set, Takes, takes, TakesAll, all_taken, and_takes, origins, queued, Fills, fills, IsJob, is_job}
 
 some_is : {A : Type 0} {x y : A} → Some x ≡ Some y → x ≡ y
 some_is {x = x} e = ap (λ o. unwrap_or o x) e

@@ -16,16 +16,16 @@ use Rattle.line_text.specs.declared.logical.Line.{Line}
 use Rattle.line_text.specs.Macros.{Macros}
 use Rattle.submit_lines.specs.declared.queue.Queue.{Queue}
 use Rattle.submit_values.specs.JobAds.{added, finished}
-use Rattle.submit_job.specs.declared.error.SubmitError.{SubmitError}
-use Rattle.submit_job.specs.declared.error.SubmitError.TheVariants as error
+use Rattle.submit_file.specs.declared.error.SubmitError.{SubmitError}
+use Rattle.submit_file.specs.declared.error.SubmitError.TheVariants as error
 use Rattle.submit_file.specs.declared.file.FileSoFar.{FileSoFar}
-use Rattle.submit_job.specs.declared.setting.LinesSoFar.{LinesSoFar}
-use Rattle.submit_job.specs.declared.error.TheConstants.{MAX_JOBS}
-use Rattle.submit_job.specs.Drafts.{JobDraft, Effect, named_value, macro_refusal, with_given, with_effect, with_room, ad_or, ad_of}
-use Rattle.submit_job.specs.Errors.{earlier, error_at}
-use Rattle.submit_job.specs.Origins.{Origin}
+use Rattle.submit_file.specs.declared.setting.LinesSoFar.{LinesSoFar}
+use Rattle.submit_file.specs.declared.error.TheConstants.{MAX_JOBS}
+use Rattle.submit_file.specs.Drafts.{JobDraft, Effect, named_value, macro_refusal, with_given, with_effect, with_room, ad_or, ad_of}
+use Rattle.submit_file.specs.Errors.{earlier, error_at}
+use Rattle.submit_file.specs.Origins.{Origin}
 use Rattle.submit_file.specs.OtherReadings.{at_reading, IsSameButDate, AgreeButDate, HaveOneResult}
-use Rattle.submit_job.specs.OneJob.{Common, whole, Gives, nothing_set, is_set, Takes, takes, TakesAll, all_taken, and_takes, numbered, queued, fills, nothing, IsJob, is_job}
+use Rattle.submit_file.specs.OneJob.{Common, whole, Gives, nothing_set, is_set, Takes, takes, TakesAll, all_taken, and_takes, numbered, queued, fills, nothing, IsJob, is_job}
 use Rattle.submit_file.specs.SubmittedJobs.{AdsResult, MakesJobs, jobs_end, stops, and_job, jobs_in, FitsIn, Asks, too_many, no_program, no_jobs, jobs, Queues, unreadable, no_form, asks, Reads, ended, no_queue, refuses, sets, sets_attribute, refuses_queue, queues, SubmittedJobs}
 use Rattle.submit_file.specs.JobMacros.{job_macros}
 use Rattle.submit_file.proofs.OneResult.{one_result}

@@ -10,14 +10,14 @@ use Rattle.submit_lines.specs.declared.queue.Queue.{Queue}
 use Rattle.submit_lines.specs.Lines as meaning
 use Rattle.submit_lines.specs.Lines.{LineResult, line_result_of, line_of}
 use Rattle.submit_lines.specs.Queue.{queue_of}
-use Rattle.submit_job.specs.declared.error.SubmitError.{SubmitError}
+use Rattle.submit_file.specs.declared.error.SubmitError.{SubmitError}
 use Rattle.submit_file.specs.declared.file.FileSoFar.{FileSoFar}
-use Rattle.submit_job.specs.declared.setting.Setting.{Setting}
-use Rattle.submit_job.specs.Errors.{UnlessMemory, Replaced}
+use Rattle.submit_file.specs.declared.setting.Setting.{Setting}
+use Rattle.submit_file.specs.Errors.{UnlessMemory, Replaced}
 use Rattle.submit_file.specs.SubmittedJobs.{line_error, AdsResult, MakesJobs, jobs_end, AddsJobs, items_of, jobs_in, FitsIn, Asks, jobs, Queues, asks, Reads, refuses, sets, sets_attribute, refuses_queue, queues, with_name, TakesQueue, TakesLines, begun, SubmittedJobs}
-use Rattle.submit_job.specs.Settings.{with_setting}
-use Rattle.submit_job.specs.OneJob.{Common}
-use Rattle.submit_job.proofs.Takings.{unless}
+use Rattle.submit_file.specs.Settings.{with_setting}
+use Rattle.submit_file.specs.OneJob.{Common}
+use Rattle.submit_file.proofs.Takings.{unless}
 use Rattle.submit_file.proofs.MadeJobs.{unless_map}
 
 pub not_if_true : {P : Type 0} (b : Bool) → (IsFalse b ↔ P) → b ≡ true → P → ⊥

@@ -27,14 +27,14 @@ use Rattle.submit_values.specs.declared.error.ValueError.TheVariants as fault
 use Rattle.submit_values.specs.JobAds.{added}
 use Rattle.submit_values.specs.Commands.{attribute_name}
 use Rattle.submit_values.specs.Values.{value_at, preset_at, some_of, tree_of_text, string_at}
-use Rattle.submit_job.specs.declared.error.SubmitError.{SubmitError}
-use Rattle.submit_job.specs.declared.error.SubmitError.TheVariants as error
+use Rattle.submit_file.specs.declared.error.SubmitError.{SubmitError}
+use Rattle.submit_file.specs.declared.error.SubmitError.TheVariants as error
 use Rattle.submit_file.specs.declared.file.FileSoFar.{FileSoFar}
-use Rattle.submit_job.specs.declared.setting.LinesSoFar.{LinesSoFar}
-use Rattle.submit_job.specs.declared.setting.Setting.{Setting}
-use Rattle.submit_job.specs.Drafts.{JobDraft, Effect, named_value, macro_refusal, with_effect, ad_or, with_room}
-use Rattle.submit_job.specs.Origins.{Origin, owner_command, other_command, own_line, name_for, preset_for}
-use Rattle.submit_job.specs.OneJob.{Common, whole, place_of, effect_at, Gives, nothing_set, is_set, Takes, takes, TakesAll, all_taken, and_takes, commands, origins, numbered, queued, Fills, fills, nothing, IsJob, is_job}
+use Rattle.submit_file.specs.declared.setting.LinesSoFar.{LinesSoFar}
+use Rattle.submit_file.specs.declared.setting.Setting.{Setting}
+use Rattle.submit_file.specs.Drafts.{JobDraft, Effect, named_value, macro_refusal, with_effect, ad_or, with_room}
+use Rattle.submit_file.specs.Origins.{Origin, owner_command, other_command, own_line, name_for, preset_for}
+use Rattle.submit_file.specs.OneJob.{Common, whole, place_of, effect_at, Gives, nothing_set, is_set, Takes, takes, TakesAll, all_taken, and_takes, commands, origins, numbered, queued, Fills, fills, nothing, IsJob, is_job}
 use Rattle.submit_file.specs.SubmittedJobs.{AdsResult, MakesJobs, jobs_end, stops, and_job, over_items, items_of, jobs_in, Asks, too_many, no_program, no_jobs, jobs, Queues, unreadable, no_form, asks, Reads, ended, no_queue, refuses, sets, sets_attribute, refuses_queue, queues, name_set, with_name, with_attribute_line, with_ads, begun, SubmittedJobs}
 use Rattle.submit_file.specs.JobMacros.{job_macros}
 use Rattle.submit_lines.specs.Names.{is_built_in}

@@ -5,8 +5,8 @@ use Rattle.std.specs.Option.{option_map}
 use Rattle.ad_value.specs.Names.{lowercase}
 use Rattle.line_text.specs.Macros.{Macros, with_macro}
 use Rattle.submit_lines.specs.declared.queue.Over.{Over}
-use Rattle.submit_job.specs.declared.plan.Plan.{Plan}
-use Rattle.submit_job.specs.Plans.{IsPlanFor}
+use Rattle.submit_file.specs.declared.plan.Plan.{Plan}
+use Rattle.submit_file.specs.Plans.{IsPlanFor}
 
 -- a macro of the job's own
 abbrev pub with_own : List ℕ → List ℕ → Macros → Macros

@@ -1,3 +1,9 @@
+pub mod Drafts
+pub mod Errors
 pub mod JobMacros
-pub mod SubmittedJobs
+pub mod OneJob
+pub mod Origins
 pub mod OtherReadings
+pub mod Plans
+pub mod Settings
+pub mod SubmittedJobs

@@ -5,7 +5,7 @@ use Rattle.ad_value.specs.Names.{same_name}
 use Rattle.ad_names.specs.declared.job.TheConstants.{Q_DATE}
 use Rattle.ad_tree.specs.Ad.{Attributes}
 use Rattle.ad_tree.specs.Tree.{Tree}
-use Rattle.submit_job.specs.OneJob.{Common}
+use Rattle.submit_file.specs.OneJob.{Common}
 use Rattle.submit_file.specs.SubmittedJobs.{AdsResult}
 
 abbrev pub at_reading : ℕ → Common → Common

@@ -11,14 +11,14 @@ use Rattle.submit_lines.specs.Lines as meaning
 use Rattle.submit_lines.specs.Lines.{line_of}
 use Rattle.submit_lines.specs.Names.{is_built_in}
 use Rattle.submit_lines.specs.Queue.{queue_of}
-use Rattle.submit_job.specs.declared.error.SubmitError.{SubmitError}
-use Rattle.submit_job.specs.declared.error.SubmitError.TheVariants as error
-use Rattle.submit_job.specs.declared.error.TheConstants.{MAX_JOBS}
-use Rattle.submit_job.specs.declared.setting.LinesSoFar.{LinesSoFar}
-use Rattle.submit_job.specs.declared.setting.Setting.{Setting}
-use Rattle.submit_job.specs.Errors.{Replaced}
-use Rattle.submit_job.specs.OneJob.{Common, IsJob}
-use Rattle.submit_job.specs.Settings.{with_setting, setting_of}
+use Rattle.submit_file.specs.declared.error.SubmitError.{SubmitError}
+use Rattle.submit_file.specs.declared.error.SubmitError.TheVariants as error
+use Rattle.submit_file.specs.declared.error.TheConstants.{MAX_JOBS}
+use Rattle.submit_file.specs.declared.setting.LinesSoFar.{LinesSoFar}
+use Rattle.submit_file.specs.declared.setting.Setting.{Setting}
+use Rattle.submit_file.specs.Errors.{Replaced}
+use Rattle.submit_file.specs.OneJob.{Common, IsJob}
+use Rattle.submit_file.specs.Settings.{with_setting, setting_of}
 use Rattle.submit_file.specs.declared.file.FileSoFar.{FileSoFar}
 use Rattle.submit_file.specs.JobMacros.{with_own, job_macros}
 

@@ -1,15 +1,15 @@
 ghost use Rattle.std.specs.Prelude.{◌≡◌, ◌≤◌, ◌<◌, ◌^◌, ◌+◌, ◌*◌, [], ◌∷◌, length, replicate, Some, OnOk};
-ghost use Rattle.submit_job.specs.declared.error.TheConstants.{MAX_JOBS};
-ghost use Rattle.submit_job.specs.Errors.{UnlessMemory};
-ghost use Rattle.submit_job.specs.OneJob.{common};
+ghost use Rattle.submit_file.specs.declared.error.TheConstants.{MAX_JOBS};
+ghost use Rattle.submit_file.specs.Errors.{UnlessMemory};
+ghost use Rattle.submit_file.specs.OneJob.{common};
 ghost use Rattle.submit_file.specs.JobMacros.{item_of, variable_in, variable_of, AreJobMacros, blocked, IsPlan};
 ghost use Rattle.submit_file.specs.SubmittedJobs.{AddsJobs, jobs_in, items_of, over_items};
 
-use crate::macros::set_job;
+use crate::item_macros::set_job;
+use crate::{Plan, Statement, SubmitError};
 use ad_tree::AdList;
 use line_text::MacroTable;
 use std::alloc::Global;
-use submit_job::{Plan, Statement, SubmitError};
 use submit_lines::{Over, Queue};
 
 /// Adds the jobs of the statement.

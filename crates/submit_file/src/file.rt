@@ -1,16 +1,16 @@
 ghost use Rattle.std.specs.Prelude.{◌≡◌, ◌≤◌, ◌<◌, ◌^◌, ◌+◌, [], ◌∷◌, ◌-◌, min, length, IfOk, OnOk, IsTrue, IsFalse, ◌↔◌};
-ghost use Rattle.submit_job.specs.declared.error.TheConstants.{MAX_JOBS};
-ghost use Rattle.submit_job.specs.Errors.{UnlessMemory};
-ghost use Rattle.submit_job.specs.OneJob.{Common, common};
+ghost use Rattle.submit_file.specs.declared.error.TheConstants.{MAX_JOBS};
+ghost use Rattle.submit_file.specs.Errors.{UnlessMemory};
+ghost use Rattle.submit_file.specs.OneJob.{Common, common};
 ghost use Rattle.submit_file.specs.SubmittedJobs.{SubmittedJobs, Asks, Queues, Reads, HasProgram, TakesLines, TakesQueue, with_name, begun, AddsJobs, FitsIn, jobs_in, items_of, line_error};
 
 use crate::copies::add_jobs;
-use crate::macros::blocked_table;
+use crate::item_macros::blocked_table;
+use crate::{Heading, LinesSoFar, MAX_JOBS, Settings, Statement, SubmitError, expand_at};
 use ad_tree::AdList;
 use ad_value::{Memory, Seq};
 use line_text::{Line, MacroTable, lines};
 use std::alloc::Global;
-use submit_job::{Heading, LinesSoFar, MAX_JOBS, Settings, Statement, SubmitError, expand_at};
 use submit_lines::{LineFault, Queue, SubmitLine, is_built_in, read_line, read_queue};
 
 /// What was read of a file.

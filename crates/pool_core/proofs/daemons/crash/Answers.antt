@@ -1,6 +1,6 @@
 use Rattle.std.proofs.Common.{refl}
-use Rattle.pool_moves.specs.Deeds.{at_rest}
-use Rattle.pool_moves.specs.Happens.{crashes}
+use Rattle.pool_rules.specs.Deeds.{at_rest}
+use Rattle.pool_rules.specs.Happens.{crashes}
 use Rattle.pool_core.proofs.TooLarge.{made_large}
 use Rattle.pool_core.proofs.daemons.crash.Goals as goal
 

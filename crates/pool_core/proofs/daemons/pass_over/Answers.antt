@@ -1,5 +1,5 @@
 use Rattle.std.proofs.Common.{refl}
-use Rattle.pool_moves.specs.Deeds.{at_rest}
+use Rattle.pool_rules.specs.Deeds.{at_rest}
 use Rattle.pool_core.proofs.TooLarge.{made_large}
 use Rattle.pool_core.proofs.daemons.pass_over.Goals as goal
 

@@ -1,6 +1,6 @@
 use Rattle.std.proofs.Common.{slice_get, sym, ◌∙◌}
 use Rattle.std.specs.Option.{option_copied}
-use Rattle.pool_moves.specs.Deeds.{at_rest}
+use Rattle.pool_rules.specs.Deeds.{at_rest}
 use Rattle.pool_tables.specs.Repeats.{times_of}
 use Rattle.pool_core.proofs.Receiving.{known_large, there_large}
 use Rattle.pool_core.proofs.daemons.receive.Goals as goal

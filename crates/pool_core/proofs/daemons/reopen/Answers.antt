@@ -1,8 +1,8 @@
 use Rattle.std.proofs.Common.{◌+◌, ap, ◌∙◌, refl}
 use Rattle.pool_state.specs.Readings.{boot_of}
 use Rattle.pool_tables.specs.DaemonTables.{DaemonsValue, daemon_state}
-use Rattle.pool_moves.specs.Deeds.{at_rest}
-use Rattle.pool_moves.specs.Happens.{ComesBack, IsReopened, boots}
+use Rattle.pool_rules.specs.Deeds.{at_rest}
+use Rattle.pool_rules.specs.Happens.{ComesBack, IsReopened, boots}
 use Rattle.pool_core.proofs.TooLarge.{large_after}
 use Rattle.pool_core.proofs.daemons.reopen.Goals as goal
 

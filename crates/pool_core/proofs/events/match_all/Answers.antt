@@ -1,8 +1,8 @@
 use Rattle.std.proofs.Common.{refl}
 use Rattle.std.proofs.lemmas.Result.{IfOk-weaker}
-use Rattle.pool_moves.specs.Deeds.{at_rest}
-use Rattle.pool_moves.specs.Happens.{ArePassed}
-use Rattle.pool_moves.specs.Masters.{passes}
+use Rattle.pool_rules.specs.Deeds.{at_rest}
+use Rattle.pool_rules.specs.Happens.{ArePassed}
+use Rattle.pool_rules.specs.Masters.{passes}
 use Rattle.pool_core.specs.Made.{IsMade}
 use Rattle.pool_core.proofs.LiveOnes.{all_passed}
 use Rattle.pool_core.proofs.TooLarge.{large_after}

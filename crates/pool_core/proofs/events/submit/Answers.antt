@@ -1,7 +1,7 @@
 use Rattle.std.proofs.Common.{Some, refl}
-use Rattle.pool_moves.specs.Answers.{answered, answer_with}
-use Rattle.pool_moves.specs.Deeds.{at_rest}
-use Rattle.pool_moves.specs.Happens.{submission_of}
+use Rattle.pool_rules.specs.Answers.{answered, answer_with}
+use Rattle.pool_rules.specs.Deeds.{at_rest}
+use Rattle.pool_rules.specs.Happens.{submission_of}
 use Rattle.pool_core.proofs.events.submit.Goals as goal
 
 pub returns-in_err-_bytes-clause-large : goal.returns-in_err-_bytes-clause-large

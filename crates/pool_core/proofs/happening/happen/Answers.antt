@@ -1,8 +1,8 @@
 use Rattle.std.proofs.Common.{Option, IsSomeAnd, slice_get, subst}
 use Rattle.ad_eval.specs.Judgement.{Judgement}
-use Rattle.pool_moves.specs.Deeds.{at_rest}
-use Rattle.pool_moves.specs.Happens.{Happens, IsReopened, Receives}
-use Rattle.pool_moves.specs.Limits.{IsTooLarge}
+use Rattle.pool_rules.specs.Deeds.{at_rest}
+use Rattle.pool_rules.specs.Happens.{Happens, IsReopened, Receives}
+use Rattle.pool_rules.specs.Limits.{IsTooLarge}
 use Rattle.pool_core.proofs.happening.happen.Goals as goal
 
 pub returns-in-Submit-clause-large : goal.returns-in-Submit-clause-large

@@ -1,4 +1,4 @@
-use Rattle.pool_moves.specs.Deeds.{at_rest}
+use Rattle.pool_rules.specs.Deeds.{at_rest}
 use Rattle.pool_core.proofs.Counting.{event_counted}
 use Rattle.pool_core.proofs.TooLarge.{reacts_large}
 use Rattle.pool_core.proofs.happening.react.Goals as goal

@@ -1,5 +1,5 @@
 use Rattle.std.proofs.Common.{subst}
-use Rattle.pool_refusals.specs.Refusals.{IsRefusal, Refusal}
+use Rattle.pool_rules.specs.Refusals.{IsRefusal, Refusal}
 use Rattle.pool_core.proofs.Refusing.{accepted_at, refused_at, refused_by}
 use Rattle.pool_core.proofs.happening.step.Goals as goal
 

@@ -1,5 +1,5 @@
 use Rattle.std.proofs.Common.{◌≡◌, ◌∙◌, ℕ, Err, ap, sym, subst}
-use Rattle.submit_job.specs.Errors.{UnlessMemory as UnlessNoMemory}
+use Rattle.submit_file.specs.Errors.{UnlessMemory as UnlessNoMemory}
 use Rattle.submit_file.specs.SubmittedJobs.{SubmittedJobs}
 use Rattle.thin_pool.specs.Reactions.{next_cluster}
 use Rattle.pool_input.proofs.FileFaults.{of_submit, submit_refused, no_text_submit, no_disk_submit}

@@ -1,7 +1,7 @@
 -- Where each key above the last one can be printed, all can.
 use Rattle.std.proofs.Common.{length}
 use Rattle.std.specs.Option.{option_copied}
-use Rattle.pool_past.proofs.Walks.{rest_of}
+use Rattle.pool_parts.proofs.Walks.{rest_of}
 use Rattle.pool_lines.proofs.QueueKeys.{WouldBePrinted}
 use Rattle.pool_lines.proofs.keys.has_printable_keys.Given as goal
 

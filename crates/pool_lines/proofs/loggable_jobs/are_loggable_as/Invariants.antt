@@ -1,6 +1,6 @@
 -- All can be logged where those that are left can.
 use Rattle.std.proofs.Common.{drop}
-use Rattle.loggable.specs.Loggable.{AreLoggableJobs}
+use Rattle.pool_parts.specs.Loggable.{AreLoggableJobs}
 use Rattle.queue_tx.specs.Printable.{IsPrintableAd}
 use Rattle.pool_lines.proofs.loggable_jobs.are_loggable_as.Given as goal
 

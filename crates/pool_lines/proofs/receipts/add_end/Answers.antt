@@ -1,5 +1,5 @@
 use Rattle.std.proofs.Common.{subst, sym}
-use Rattle.pool_moves.specs.Given.{AreOfMachine}
+use Rattle.pool_rules.specs.Given.{AreOfMachine}
 use Rattle.pool_lines.proofs.Given.{end_given}
 use Rattle.pool_lines.proofs.receipts.add_end.Goals as goal
 

@@ -1,6 +1,6 @@
 use Rattle.std.proofs.Common.{◌≡◌}
 use Rattle.pool_lines.specs.Marks.{HasMarks}
-use Rattle.pool_moves.specs.Given.{AreOfMachine}
+use Rattle.pool_rules.specs.Given.{AreOfMachine}
 use Rattle.pool_state.specs.declared.state.PoolState.{PoolState}
 use Rattle.pool_lines.proofs.receipts.add_ends.Given as goal
 

@@ -1,5 +1,5 @@
 use Rattle.std.proofs.Common.{subst, sym}
-use Rattle.pool_moves.specs.Given.{AreOfMachine}
+use Rattle.pool_rules.specs.Given.{AreOfMachine}
 use Rattle.pool_lines.proofs.receipts.ends_of.Goals as goal
 
 pub returns-clause-ends : goal.returns-clause-ends

@@ -2,7 +2,7 @@
 use Rattle.std.proofs.Common.{◌≡◌, ◌++◌, length}
 use Rattle.std.specs.Prelude.{filter_map}
 use Rattle.std.specs.Option.{option_copied}
-use Rattle.pool_past.proofs.Walks.{rest_of}
+use Rattle.pool_parts.proofs.Walks.{rest_of}
 use Rattle.pool_shown.specs.ShownJobs.{done_entry}
 use Rattle.pool_shown.proofs.finished.push_finished.Given as goal
 

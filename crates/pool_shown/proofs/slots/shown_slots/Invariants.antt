@@ -1,6 +1,6 @@
 -- What was shown, with what the machines that are left show, is all.
 use Rattle.std.proofs.Common.{◌≡◌, drop}
-use Rattle.pool_machines.specs.Slots.{all_slots}
+use Rattle.pool_shown.specs.Slots.{all_slots}
 use Rattle.pool_shown.specs.ShownSlots.{shown_slots, with_slots}
 use Rattle.pool_shown.proofs.slots.shown_slots.Given as goal
 

@@ -1,6 +1,6 @@
 -- These are the jobs so far.
 use Rattle.std.proofs.Common.{◌≡◌}
-use Rattle.pool_moves.specs.Logging.{cluster_jobs}
+use Rattle.pool_rules.specs.Logging.{cluster_jobs}
 use Rattle.pool_steps.proofs.growing.new_jobs.Given as goal
 
 abbrev pub invariant-loop-proc : goal.invariant-loop-proc

@@ -1,5 +1,5 @@
-use Rattle.pool_moves.specs.Deeds.{at_rest}
-use Rattle.pool_moves.specs.Masters.{passes}
+use Rattle.pool_rules.specs.Deeds.{at_rest}
+use Rattle.pool_rules.specs.Masters.{passes}
 use Rattle.pool_steps.proofs.TooLarge.{done_too_large}
 use Rattle.pool_steps.proofs.master.pass_matches.Goals as goal
 

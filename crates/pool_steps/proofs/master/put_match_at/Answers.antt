@@ -1,7 +1,7 @@
 use Rattle.std.proofs.Common.{◌≡◌, Option, None, slice_get, ap, sym, ◌∙◌}
 use Rattle.pool_mail.specs.declared.matching.Match.{Match}
-use Rattle.pool_moves.specs.Deeds.{sends}
-use Rattle.pool_moves.specs.Masters.{mails_at}
+use Rattle.pool_rules.specs.Deeds.{sends}
+use Rattle.pool_rules.specs.Masters.{mails_at}
 use Rattle.pool_steps.proofs.Posting.{no_mails}
 use Rattle.pool_steps.proofs.master.put_match_at.Goals as goal
 

@@ -1,7 +1,7 @@
 -- The matches so far are told, and there is room for the others.
 use Rattle.std.proofs.Common.{◌≡◌, ◌+◌, ◌*◌, ◌≤◌, length, take}
-use Rattle.pool_moves.specs.Deeds.{rested, sends}
-use Rattle.pool_moves.specs.Masters.{mails_of_matches}
+use Rattle.pool_rules.specs.Deeds.{rested, sends}
+use Rattle.pool_rules.specs.Masters.{mails_of_matches}
 use Rattle.pool_steps.proofs.master.put_matches.Given as goal
 
 abbrev pub invariant-loop-place : goal.invariant-loop-place

@@ -1,7 +1,7 @@
 use Rattle.std.proofs.Common.{rules, slice_get}
 use Rattle.startd_core.specs.Startds.{after_end}
-use Rattle.pool_moves.specs.Deeds.{at_rest}
-use Rattle.pool_moves.specs.Startds.{ends_after}
+use Rattle.pool_rules.specs.Deeds.{at_rest}
+use Rattle.pool_rules.specs.Startds.{ends_after}
 use Rattle.pool_steps.proofs.Acting.{done_by}
 use Rattle.pool_steps.proofs.TooLarge.{startd_too_large}
 use Rattle.pool_steps.proofs.startds.end_run.Goals as goal

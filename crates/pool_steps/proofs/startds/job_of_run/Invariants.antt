@@ -1,6 +1,6 @@
 -- No slot so far has the run.
 use Rattle.std.proofs.Common.{◌≡◌, drop}
-use Rattle.pool_moves.specs.Startds.{job_of_run}
+use Rattle.pool_rules.specs.Startds.{job_of_run}
 use Rattle.pool_steps.proofs.startds.job_of_run.Given as goal
 
 abbrev pub invariant-loop-slot : goal.invariant-loop-slot

@@ -1,7 +1,7 @@
 use Rattle.std.proofs.Common.{rules, slice_get, ap}
 use Rattle.std.specs.Option.{option_copied}
 use Rattle.pool_tables.specs.MailLists.{MailsValue}
-use Rattle.pool_moves.specs.Deeds.{at_rest, rested}
+use Rattle.pool_rules.specs.Deeds.{at_rest, rested}
 use Rattle.pool_steps.proofs.Acting.{received_from}
 use Rattle.pool_steps.proofs.Posting.{receivable}
 use Rattle.pool_steps.proofs.TooLarge.{startd_receipt_too_large}

@@ -1,7 +1,7 @@
 use Rattle.std.proofs.Common.{ap, ◌∙◌}
 use Rattle.startd_core.specs.PreparedStartds.{startd_after}
 use Rattle.pool_tables.specs.MailLists.{MailsValue}
-use Rattle.pool_moves.specs.Deeds.{posts, startd_acts}
+use Rattle.pool_rules.specs.Deeds.{posts, startd_acts}
 use Rattle.pool_steps.proofs.startds.take_deed.Goals as goal
 
 pub returns-clause-pool : goal.returns-clause-pool

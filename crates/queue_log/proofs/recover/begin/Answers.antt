@@ -1,6 +1,6 @@
 use Rattle.std.proofs.Common.{◌≡◌, ◌∙◌, refl, ap, arith, rules}
 use Rattle.pool_outer.specs.Files.{bytes_in}
-use Rattle.solid_file.proofs.Moments.{keeps_none}
+use Rattle.queue_log.proofs.Moments.{keeps_none}
 use Rattle.queue_log.specs.NewLog.{new_log_text}
 use Rattle.queue_log.proofs.Opened.{begun_by, nothing_before}
 use Rattle.queue_log.proofs.Recovery.{begun_opening, kept_opening, uncut_part, uncut_same}

@@ -1,5 +1,5 @@
 use Rattle.std.proofs.Common.{◌∙◌, arith}
-use Rattle.solid_file.proofs.Moments.{keeps_call}
+use Rattle.queue_log.proofs.Moments.{keeps_call}
 use Rattle.queue_log.proofs.Recovery.{behind_kept}
 use Rattle.queue_log.proofs.recover.begin_or_resume.Goals as goal
 

@@ -1,6 +1,6 @@
 use Rattle.std.proofs.Common.{◌≡◌, ◌∙◌, ◌<◌, ◌^◌, inl, inr, true, length, take, sym, ap, arith}
 use Rattle.pool_outer.specs.Files.{bytes_in}
-use Rattle.solid_file.proofs.Moments.{leaves_fewer}
+use Rattle.queue_log.proofs.Moments.{leaves_fewer}
 use Rattle.queue_log.proofs.Opened.{image_after, opened_by, whole_within}
 use Rattle.queue_log.proofs.Pieces.{cut_bytes, size_of}
 use Rattle.queue_log.proofs.Recovery.{behind_cut, kept_opening, stands_as}

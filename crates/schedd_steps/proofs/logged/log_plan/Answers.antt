@@ -6,7 +6,7 @@ use Rattle.pool_tables.specs.MailLists.{MailsValue}
 use Rattle.queue_tx.specs.Queues.{with_changes}
 use Rattle.schedd_state.specs.declared.answer.ScheddStep.{ScheddStep}
 use Rattle.schedd_state.specs.Schedds.{ScheddValue}
-use Rattle.pool_moves.specs.Deeds.{posts, rested}
+use Rattle.pool_rules.specs.Deeds.{posts, rested}
 use Rattle.schedd_steps.specs.Counting.{bytes_planned, logged_by, with_counts}
 use Rattle.pool_steps.proofs.Posting.{posted_all}
 use Rattle.schedd_steps.proofs.logged.log_plan.Goals as goal

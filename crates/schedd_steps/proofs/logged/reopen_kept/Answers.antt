@@ -3,7 +3,7 @@ use Rattle.schedd_state.specs.PreparedSchedds.{schedd_after}
 use Rattle.pool_state.specs.declared.state.PoolState.{PoolState}
 use Rattle.queue_tx.specs.Queues.{with_changes}
 use Rattle.schedd_state.specs.Schedds.{ScheddValue}
-use Rattle.pool_moves.specs.Deeds.{at_rest}
+use Rattle.pool_rules.specs.Deeds.{at_rest}
 use Rattle.schedd_steps.specs.Counting.{bytes_after, with_counts}
 use Rattle.schedd_steps.proofs.UnfinishedDone.{back_too_large, back_with}
 use Rattle.schedd_steps.proofs.logged.reopen_kept.Goals as goal

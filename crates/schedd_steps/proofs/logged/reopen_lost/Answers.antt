@@ -1,7 +1,7 @@
 use Rattle.std.proofs.Common.{None, ap}
 use Rattle.schedd_state.specs.PreparedSchedds.{schedd_after}
 use Rattle.schedd_state.specs.Schedds.{ScheddValue}
-use Rattle.pool_moves.specs.Deeds.{at_rest}
+use Rattle.pool_rules.specs.Deeds.{at_rest}
 use Rattle.schedd_steps.proofs.UnfinishedDone.{lost_too_large}
 use Rattle.schedd_steps.proofs.logged.reopen_lost.Goals as goal
 

@@ -1,8 +1,8 @@
 use Rattle.std.proofs.Common.{Bool, sym, subst}
 use Rattle.pool_outer.specs.declared.gate.Daemon.TheVariants.{Schedd}
-use Rattle.pool_moves.specs.Deeds.{at_rest}
-use Rattle.pool_moves.specs.Happens.{ComesBack}
-use Rattle.pool_moves.specs.Limits.{IsTooLarge}
+use Rattle.pool_rules.specs.Deeds.{at_rest}
+use Rattle.pool_rules.specs.Happens.{ComesBack}
+use Rattle.pool_rules.specs.Limits.{IsTooLarge}
 use Rattle.schedd_steps.proofs.logged.reopen_schedd.Goals as goal
 
 pub returns-then-kept-clause-large : goal.returns-then-kept-clause-large

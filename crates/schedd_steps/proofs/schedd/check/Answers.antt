@@ -1,6 +1,6 @@
 use Rattle.std.proofs.Common.{rules, ◌+◌, ◌<◌, subst}
-use Rattle.pool_limits.specs.Sizes.{mails_count}
-use Rattle.pool_limits.specs.declared.size.TheConstants.{MAX_BYTES}
+use Rattle.pool_parts.specs.Sizes.{mails_count}
+use Rattle.pool_parts.specs.declared.size.TheConstants.{MAX_BYTES}
 use Rattle.schedd_state.specs.declared.answer.ScheddStep.{ScheddStep}
 use Rattle.schedd_steps.proofs.TooLarge.{looks_too_large}
 use Rattle.schedd_steps.proofs.schedd.check.Goals as goal

@@ -1,7 +1,7 @@
 use Rattle.std.proofs.Common.{ap, ◌∙◌}
 use Rattle.schedd_state.specs.PreparedSchedds.{schedd_after}
 use Rattle.pool_tables.specs.MailLists.{MailsValue}
-use Rattle.pool_moves.specs.Deeds.{schedd_acts}
+use Rattle.pool_rules.specs.Deeds.{schedd_acts}
 use Rattle.schedd_steps.proofs.schedd.take_deed.Goals as goal
 
 pub returns-clause-pool : goal.returns-clause-pool

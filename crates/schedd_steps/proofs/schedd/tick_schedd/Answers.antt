@@ -3,7 +3,7 @@ use Rattle.claim_id.specs.declared.numbers.JobId.{JobId}
 use Rattle.schedd_state.specs.declared.prepared.PreparedSchedd.{PreparedSchedd}
 use Rattle.schedd_state.specs.PreparedSchedds.{schedd_after}
 use Rattle.schedd_core.specs.Ticks.{IsTicked}
-use Rattle.pool_moves.specs.Deeds.{schedd_acts}
+use Rattle.pool_rules.specs.Deeds.{schedd_acts}
 use Rattle.schedd_steps.proofs.TooLarge.{ticks_too_large}
 use Rattle.schedd_steps.proofs.schedd.tick_schedd.Goals as goal
 

@@ -1,5 +1,5 @@
 use Rattle.std.proofs.Common.{rules}
-use Rattle.submit_job.specs.OneJob.{common}
+use Rattle.submit_file.specs.OneJob.{common}
 use Rattle.submit_file.specs.JobMacros.{item_of}
 use Rattle.submit_file.proofs.MadeJobs.{copies_err}
 use Rattle.submit_file.proofs.copies.add_copies.Goals as goal

@@ -1,6 +1,6 @@
 -- The jobs so far, and the macros of the last of them.
 use Rattle.std.proofs.Common.{◌≡◌, ◌+◌, Ok, length, replicate}
-use Rattle.submit_job.specs.OneJob.{common}
+use Rattle.submit_file.specs.OneJob.{common}
 use Rattle.submit_file.specs.JobMacros.{item_of, variable_of, AreJobMacros}
 use Rattle.submit_file.specs.SubmittedJobs.{AddsJobs}
 use Rattle.submit_file.proofs.copies.add_copies.Given as goal

@@ -1,5 +1,5 @@
 use Rattle.std.proofs.Common.{Some, ap, ◌∙◌, subst, get_or, rules}
-use Rattle.submit_job.specs.OneJob.{common}
+use Rattle.submit_file.specs.OneJob.{common}
 use Rattle.submit_file.specs.JobMacros.{AreJobMacros}
 use Rattle.submit_file.proofs.MadeJobs.{items_err}
 use Rattle.submit_file.proofs.copies.add_items.Goals as goal

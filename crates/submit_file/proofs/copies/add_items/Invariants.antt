@@ -1,6 +1,6 @@
 -- The jobs of the items so far, and the macros of the last of them.
 use Rattle.std.proofs.Common.{◌≡◌, ◌+◌, ◌*◌, Ok, Some, length, take}
-use Rattle.submit_job.specs.OneJob.{common}
+use Rattle.submit_file.specs.OneJob.{common}
 use Rattle.submit_file.specs.SubmittedJobs.{over_items, AddsJobs}
 use Rattle.submit_file.specs.JobMacros.{AreJobMacros}
 use Rattle.submit_file.proofs.copies.add_items.Given as goal

@@ -1,5 +1,5 @@
 use Rattle.std.specs.Prelude.{decimal}
-use Rattle.submit_job.specs.OneJob.{common}
+use Rattle.submit_file.specs.OneJob.{common}
 use Rattle.submit_file.specs.JobMacros.{item_of}
 use Rattle.submit_file.proofs.MadeJobs.{job_ok, job_err}
 use Rattle.submit_file.proofs.JobMacros.{job_set, are_job_macros}

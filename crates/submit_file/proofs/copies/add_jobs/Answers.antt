@@ -1,5 +1,5 @@
 use Rattle.std.proofs.Common.{sym, subst}
-use Rattle.submit_job.specs.declared.statement.Statement.{Statement}
+use Rattle.submit_file.specs.declared.statement.Statement.{Statement}
 use Rattle.submit_file.specs.JobMacros.{variable_in, AreJobMacros}
 use Rattle.submit_file.proofs.JobMacros.{are_blocked, job_spared}
 use Rattle.submit_file.proofs.copies.add_jobs.Goals as goal

@@ -1,5 +1,5 @@
 use Rattle.std.proofs.Common.{◌∙◌}
-use Rattle.submit_job.specs.OneJob.{Common}
+use Rattle.submit_file.specs.OneJob.{Common}
 use Rattle.submit_file.proofs.Readings.{all_read, all_refused}
 use Rattle.submit_file.proofs.file.jobs.Goals as goal
 

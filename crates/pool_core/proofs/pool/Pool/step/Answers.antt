@@ -1,7 +1,7 @@
 use Rattle.std.proofs.Common.{OnOk, IfOk, sym, subst}
-use Rattle.loggable.specs.Answers.{CanAppend}
-use Rattle.pool_moves.specs.Deeds.{at_rest}
-use Rattle.pool_moves.specs.Given.{IsGiven}
+use Rattle.pool_parts.specs.Appends.{CanAppend}
+use Rattle.pool_rules.specs.Deeds.{at_rest}
+use Rattle.pool_rules.specs.Given.{IsGiven}
 use Rattle.pool_safety.specs.Histories.{MovesView}
 use Rattle.pool_state.specs.declared.state.PoolState.{PoolState}
 use Rattle.pool_safety.specs.Counted.{CountsBytes}

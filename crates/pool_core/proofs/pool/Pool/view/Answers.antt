@@ -1,7 +1,7 @@
 use Rattle.std.proofs.Common.{ℕ, List, Option, IfOk, subst}
 use Rattle.std.proofs.lemmas.Result.{IfOk-weaker}
 use Rattle.claim_id.specs.declared.numbers.ClaimId.{ClaimId}
-use Rattle.pool_moves.specs.Deeds.{at_rest}
+use Rattle.pool_rules.specs.Deeds.{at_rest}
 use Rattle.pool_state.specs.declared.state.PoolState.{PoolState}
 use Rattle.pool_state.specs.PoolViews.{IsViewOf}
 use Rattle.schedd_state.specs.Reopening.{IsReader}

@@ -6,7 +6,7 @@ use Rattle.pool_view.specs.declared.run.EndReport.{EndReport}
 use Rattle.startd_core.specs.declared.answer.StartdStep.{StartdStep}
 use Rattle.startd_core.specs.Startds.{StartdValue}
 use Rattle.std.specs.Prelude.{slice_set}
-use Rattle.pool_moves.specs.Deeds.{posts, rested}
+use Rattle.pool_rules.specs.Deeds.{posts, rested}
 use Rattle.pool_steps.proofs.Posting.{posted_all}
 use Rattle.pool_steps.proofs.startds.StartdDeed.commit.Goals as goal
 

@@ -2,12 +2,12 @@ use Rattle.std.proofs.Common.{◌≡◌, ℕ, Option, List, ◌++◌, ap, ◌∙
 use Rattle.claim_id.specs.declared.numbers.JobId.{JobId}
 use Rattle.schedd_state.specs.PreparedSchedds.{schedd_after}
 use Rattle.pool_mail.specs.declared.mail.Mail.{Mail}
-use Rattle.pool_pending.specs.declared.pending.Pending.{Pending}
+use Rattle.pool_parts.specs.declared.pending.Pending.{Pending}
 use Rattle.pool_tables.specs.MailLists.{MailsValue}
 use Rattle.schedd_state.specs.declared.answer.ScheddStep.{ScheddStep}
 use Rattle.schedd_state.specs.Schedds.{ScheddValue}
-use Rattle.pool_moves.specs.Answers.{pending_by}
-use Rattle.pool_moves.specs.Deeds.{posts, rested}
+use Rattle.pool_rules.specs.Answers.{pending_by}
+use Rattle.pool_rules.specs.Deeds.{posts, rested}
 use Rattle.pool_steps.proofs.Posting.{posted_all}
 use Rattle.schedd_steps.proofs.schedd.ScheddDeed.commit.Goals as goal
 

@@ -1,7 +1,7 @@
 use Rattle.std.proofs.Common.{sym, ◌∙◌, ap, subst, [], List, ◌∷◌, ◌++◌}
 use Rattle.desk.specs.Entries.{entry_of}
 use Rattle.desk.specs.Given.{IsGivenBy, IsOwn}
-use Rattle.pool_passes.specs.Standing.{end_mark_of}
+use Rattle.desk.specs.Standing.{end_mark_of}
 use Rattle.desk.specs.declared.entry.Entry.{Entry}
 use Rattle.sole_desk.specs.SolePasses.{SolePassValue}
 use Rattle.sole_desk.proofs.Accepting.{Accepted, accepted, given_here}

@@ -1,7 +1,7 @@
 use Rattle.std.proofs.Common.{ap, sym, ◌∙◌}
 use Rattle.submit_lines.specs.Queue.{queue_of}
-use Rattle.submit_job.specs.Errors.{Replaced}
-use Rattle.submit_job.specs.OneJob.{common}
+use Rattle.submit_file.specs.Errors.{Replaced}
+use Rattle.submit_file.specs.OneJob.{common}
 use Rattle.submit_file.specs.SubmittedJobs.{Queues, TakesQueue, unreadable, no_form}
 use Rattle.submit_file.proofs.MadeJobs.{unless_map}
 use Rattle.submit_file.proofs.Readings.{statement_taken}

@@ -1,5 +1,5 @@
 use Rattle.std.proofs.Common.{Ok, ap, ◌∙◌}
-use Rattle.submit_job.specs.OneJob.{common}
+use Rattle.submit_file.specs.OneJob.{common}
 use Rattle.submit_file.proofs.Readings.{line_is, name_taken, attribute_taken, queue_taken, line_refused}
 use Rattle.submit_file.proofs.file.FileSoFar.read.Goals as goal
 

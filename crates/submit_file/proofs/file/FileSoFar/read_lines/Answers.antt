@@ -1,5 +1,5 @@
 use Rattle.std.proofs.Common.{rules}
-use Rattle.submit_job.specs.OneJob.{common}
+use Rattle.submit_file.specs.OneJob.{common}
 use Rattle.submit_file.proofs.Readings.{next_line, last_line, lines_err}
 use Rattle.submit_file.proofs.file.FileSoFar.read_lines.Goals as goal
 

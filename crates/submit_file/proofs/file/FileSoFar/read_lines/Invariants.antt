@@ -1,7 +1,7 @@
 -- What comes of the lines that are left comes of all.
 use Rattle.std.proofs.Common.{List, ◌++◌, drop}
 use Rattle.line_text.specs.declared.logical.Line.{Line}
-use Rattle.submit_job.specs.OneJob.{common}
+use Rattle.submit_file.specs.OneJob.{common}
 use Rattle.submit_file.specs.SubmittedJobs.{AdsResult, Reads}
 use Rattle.submit_file.proofs.file.FileSoFar.read_lines.Given as goal
 

@@ -1,5 +1,5 @@
 use Rattle.std.proofs.Common.{◌≡◌, ◌<◌, refl, rules, arith}
-use Rattle.submit_job.specs.OneJob.{common}
+use Rattle.submit_file.specs.OneJob.{common}
 use Rattle.submit_file.specs.SubmittedJobs.{jobs_in, too_many, no_program, no_jobs}
 use Rattle.submit_file.proofs.Readings.{not_if_true, not_if_false, jobs_added}
 use Rattle.submit_file.proofs.file.FileSoFar.take.Goals as goal

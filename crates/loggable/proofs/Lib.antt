@@ -1,6 +1,0 @@
-pub mod Rooms
-pub mod Doing
-pub mod Printing
-pub mod PlanLogs
-pub mod Submitting
-pub mod ShortNumbers

@@ -1,5 +1,0 @@
-use Rattle.loggable.proofs.PlanLogs.{plan_logs}
-use Rattle.loggable.proofs.laws.plans_can_be_logged.Goals as goal
-
-pub returns : goal.returns
-returns c = plan_logs

@@ -1,8 +1,0 @@
-use Rattle.loggable.proofs.Rooms.{keys_stay, room_stays}
-use Rattle.loggable.proofs.laws.queues_stay_loggable.Goals as goal
-
-pub returns-clause-room : goal.returns-clause-room
-returns-clause-room c = room_stays
-
-pub returns-clause-keys : goal.returns-clause-keys
-returns-clause-keys c = keys_stay

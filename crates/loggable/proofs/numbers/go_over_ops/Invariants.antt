@@ -1,8 +1,0 @@
--- All numbers are short where those of the operations that are left are.
-use Rattle.std.proofs.Common.{drop, map}
-use Rattle.queue_tx.specs.Operations.{operation}
-use Rattle.loggable.specs.Loggable.{AreShortOps}
-use Rattle.loggable.proofs.numbers.go_over_ops.Given as goal
-
-abbrev pub invariant-loop-op : goal.invariant-loop-op
-invariant-loop-op l = AreShortOps (map operation (drop l.op-index l.ops)) → AreShortOps (map operation l.ops)

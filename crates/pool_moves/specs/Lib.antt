@@ -1,9 +1,0 @@
-pub mod Answers
-pub mod Deeds
-pub mod Given
-pub mod Happens
-pub mod Limits
-pub mod Logging
-pub mod Masters
-pub mod Schedds
-pub mod Startds

@@ -1,3 +1,0 @@
-//! What every event makes of a pool, in the words of the crates below. There is nothing here but
-//! definitions.
-#![tactic(auto)]

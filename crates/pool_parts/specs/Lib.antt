@@ -1,0 +1,13 @@
+pub mod Answers
+pub mod Appends
+pub mod Clusters
+pub mod Events
+pub mod FinishedJobs
+pub mod Growth
+pub mod Listings
+pub mod Loggable
+pub mod Noted
+pub mod Plans
+pub mod Receipts
+pub mod Sizes
+pub mod Submissions

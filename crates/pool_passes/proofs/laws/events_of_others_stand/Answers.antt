@@ -1,5 +1,0 @@
-use Rattle.pool_passes.proofs.Passes.{others_queue, others_stand}
-use Rattle.pool_passes.proofs.laws.events_of_others_stand.Goals as goal
-
-pub returns : goal.returns
-returns c = record { stands = others_stand; queue = others_queue }

@@ -1,5 +1,0 @@
-use Rattle.pool_passes.proofs.Passes.{own_before, own_fits, own_queue, own_stands}
-use Rattle.pool_passes.proofs.laws.own_events_stand.Goals as goal
-
-pub returns : goal.returns
-returns c = record { stands = own_stands; fits = own_fits; before = own_before; queue = own_queue }

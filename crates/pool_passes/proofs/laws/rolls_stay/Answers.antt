@@ -1,9 +1,0 @@
-use Rattle.pool_passes.proofs.Rolls.{rolls_same}
-use Rattle.pool_passes.proofs.laws.rolls_stay.Goals as goal
-
-pub returns : goal.returns
-returns c = record {
-  log = λ s new e r h. (rolls_same s new e r h).log;
-  ends = λ s new e r h. (rolls_same s new e r h).ends;
-  daemons = λ s new e r who h. (rolls_same s new e r h).daemons who;
-}

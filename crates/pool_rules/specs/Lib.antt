@@ -1,0 +1,11 @@
+pub mod Answers
+pub mod Deeds
+pub mod Given
+pub mod Happens
+pub mod Judging
+pub mod Limits
+pub mod Logging
+pub mod Masters
+pub mod Refusals
+pub mod Schedds
+pub mod Startds

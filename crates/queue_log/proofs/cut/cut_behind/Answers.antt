@@ -1,0 +1,13 @@
+use Rattle.std.proofs.Common.{◌≡◌, ◌∙◌, ◌≤◌, ◌⊎◌, inl, inr, List, ℕ, arith, ap, sym, take, length}
+use Rattle.pool_outer.specs.Files.{bytes_in, Leaves}
+use Rattle.queue_log.specs.Moments.{LeavesOnly}
+use Rattle.queue_log.proofs.Moments.{begins, goes_on}
+use Rattle.queue_log.proofs.cut.cut_behind.Goals as goal
+
+pub returns-clause-any_moment : goal.returns-clause-any_moment
+returns-clause-any_moment g c tells =
+    let m = g.D.Store in
+    let old = c.args.store.now in
+    let name = c.args.name.now in
+    begins m.moment m.left_since name old (λ image. Leaves (m.file old) (m.solid old) name image ⊎ Leaves (m.file old) (m.solid old) name image)
+    (λ image left. inl (g.met.D.Store.only_now old name image tells left))

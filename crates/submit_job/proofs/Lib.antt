@@ -1,4 +1,0 @@
-pub mod Places
-pub mod Puts
-pub mod Spared
-pub mod Takings
