@@ -5,7 +5,7 @@ use Rattle.std.specs.Ordering.{int_eq}
 use Rattle.std.specs.List.{list_any}
 use Rattle.ad_value.specs.Content.{Content, truth, integer}
 use Rattle.ad_value.specs.Order.{number_of}
-use Rattle.ad_names.specs.declared.matching.TheConstants.{REQUIREMENTS, RANK}
+use Rattle.ad_value.specs.declared.names.matching.TheConstants.{REQUIREMENTS, RANK}
 use Rattle.ad_tree.specs.Ad.{Attributes}
 use Rattle.ad_eval.specs.Mean.{attribute_value}
 

@@ -1,7 +1,7 @@
 -- What a job asks of a machine (HTCondor manual, "condor_submit", request_cpus and its kin).
 use Rattle.std.specs.Prelude.{ℕ, List}
-use Rattle.ad_names.specs.declared.job.TheConstants.{REQUEST_CPUS, REQUEST_DISK, REQUEST_MEMORY}
-use Rattle.ad_names.specs.declared.slot.TheConstants.{CPUS, DISK, MEMORY}
+use Rattle.ad_value.specs.declared.names.job.TheConstants.{REQUEST_CPUS, REQUEST_DISK, REQUEST_MEMORY}
+use Rattle.ad_value.specs.declared.names.slot.TheConstants.{CPUS, DISK, MEMORY}
 use Rattle.ad_tree.specs.declared.operator.BinOp.TheVariants.{And, GreaterEqual}
 use Rattle.ad_tree.specs.declared.operator.Scope.TheVariants.{Bare, Target}
 use Rattle.ad_tree.specs.Tree.{Tree, reference, chain, no_rests, and_rest}

@@ -2,6 +2,7 @@ pub mod Bytes
 pub mod Content
 pub mod Decimals
 pub mod Gives
+pub mod Groups
 pub mod Names
 pub mod Order
 pub mod Truth

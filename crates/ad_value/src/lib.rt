@@ -1,10 +1,11 @@
 //! The small data that every other crate speaks of: values, texts, and lists that contracts see as
-//! lists.
+//! lists; and the names of the attributes of ads.
 #![tactic(auto)]
 
 mod literal;
 mod memory;
 mod name;
+pub mod names;
 mod number;
 mod order;
 mod seq;

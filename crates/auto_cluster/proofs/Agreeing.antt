@@ -3,7 +3,7 @@ use Rattle.std.proofs.Common.{◌≡◌, ℕ, ◌&&◌, ◌||◌, Bool, true, fa
 use Rattle.std.specs.Prelude.{◌↔◌, Contains, filter}
 use Rattle.std.proofs.lemmas.Bool.{or_left, or_right, true≢false}
 use Rattle.ad_value.specs.Names.{same_name}
-use Rattle.ad_names.specs.declared.matching.TheConstants.{REQUIREMENTS, RANK}
+use Rattle.ad_value.specs.declared.names.matching.TheConstants.{REQUIREMENTS, RANK}
 use Rattle.ad_tree.specs.Tree.{Tree}
 use Rattle.ad_tree.specs.Ad.{Attributes, lookup}
 use Rattle.ad_eval.specs.declared.sides.Side.{Side}

@@ -6,7 +6,7 @@ use Rattle.std.proofs.lemmas.List.{map-append}
 use Rattle.std.proofs.lemmas.List.Elements.{filter_more}
 use Rattle.std.proofs.lemmas.List.Folds.{list_any-append}
 use Rattle.ad_value.specs.Names.{same_name}
-use Rattle.ad_names.specs.declared.matching.TheConstants.{REQUIREMENTS, RANK}
+use Rattle.ad_value.specs.declared.names.matching.TheConstants.{REQUIREMENTS, RANK}
 use Rattle.auto_cluster.specs.declared.links.Link.{Link}
 use Rattle.auto_cluster.specs.Links.{is_linked, is_from, links_beside, ends_from, is_among, first_names}
 use Rattle.auto_cluster.specs.Significant.{Reach, begins, goes_on, without_case, is_first_name}

@@ -2,7 +2,7 @@
 use Rattle.std.specs.Prelude.{◌≡◌, ℕ, Bool, false, ◌&&◌, ◌||◌, Option, Some, None, List, [], ◌∷◌, filter, not, cond, map}
 use Rattle.std.specs.List.{list_any}
 use Rattle.ad_value.specs.Names.{same_name}
-use Rattle.ad_names.specs.declared.matching.TheConstants.{REQUIREMENTS, RANK}
+use Rattle.ad_value.specs.declared.names.matching.TheConstants.{REQUIREMENTS, RANK}
 use Rattle.ad_tree.specs.Tree.{Tree}
 use Rattle.ad_tree.specs.Ad.{Attributes, without}
 use Rattle.auto_cluster.specs.Significant.{refers_to}

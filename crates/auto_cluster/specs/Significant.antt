@@ -3,7 +3,7 @@
 use Rattle.std.specs.Prelude.{◌≡◌, ◌↔◌, ℕ, Bool, true, false, ◌&&◌, ◌||◌, List, ◌∷◌, filter}
 use Rattle.std.specs.List.{list_any}
 use Rattle.ad_value.specs.Names.{same_name}
-use Rattle.ad_names.specs.declared.matching.TheConstants.{REQUIREMENTS, RANK}
+use Rattle.ad_value.specs.declared.names.matching.TheConstants.{REQUIREMENTS, RANK}
 use Rattle.ad_tree.specs.Tree.{Tree, Trees, Rests, literal, reference, unary, chain, choice, or_else, call, items, no_trees, and_tree, no_rests, and_rest}
 use Rattle.ad_tree.specs.Ad.{Attributes, names}
 

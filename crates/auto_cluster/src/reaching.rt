@@ -5,7 +5,7 @@ ghost use Rattle.auto_cluster.specs.Links as links;
 ghost use Rattle.auto_cluster.specs.Significant.{Reach, is_first_name};
 
 use crate::links::Link;
-use ad_names::matching::{RANK, REQUIREMENTS};
+use ad_value::names::matching::{RANK, REQUIREMENTS};
 use ad_value::{Copied, Memory, Text, same_name};
 use std::alloc::Global;
 

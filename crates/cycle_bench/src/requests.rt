@@ -1,4 +1,4 @@
-use ad_names::job::{PROC_ID, REQUEST_MEMORY};
+use ad_value::names::job::{PROC_ID, REQUEST_MEMORY};
 use ad_parse::parse_ad;
 use ad_tree::{Ad, Expr};
 use ad_value::{Copied, Text, Value};

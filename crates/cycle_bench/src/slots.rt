@@ -1,4 +1,4 @@
-use ad_names::slot::{SLOT_ID, START};
+use ad_value::names::slot::{SLOT_ID, START};
 use ad_parse::parse_ad;
 use ad_tree::{Ad, Expr};
 use ad_value::{Copied, Text, Value};

@@ -1,7 +1,7 @@
 use crate::judging::judge_pair;
-use ad_names::job::CMD;
-use ad_names::matching::REQUIREMENTS;
-use ad_names::slot::NAME;
+use ad_value::names::job::CMD;
+use ad_value::names::matching::REQUIREMENTS;
+use ad_value::names::slot::NAME;
 use ad_tree::{Ad, Expr, SetError};
 use ad_value::{Memory, Text, Value};
 use cases::{Case, CaseError};

@@ -1,4 +1,4 @@
-use ad_names::job::REQUEST_MEMORY;
+use ad_value::names::job::REQUEST_MEMORY;
 use ad_tree::{Ad, AdList, Expr};
 use ad_value::{Memory, Value};
 use cases::{Case, CaseError};

@@ -2,9 +2,9 @@
 use Rattle.std.specs.Prelude.{◌≡◌, ◌≤◌, ℕ, ◌+◌, not, true, Bool, List, [], ◌∷◌, count_by, Some, None}
 use Rattle.std.specs.List.{list_any}
 use Rattle.ad_value.specs.Names.{same_name}
-use Rattle.ad_names.specs.Groups.{pool_names}
-use Rattle.ad_names.specs.declared.job.TheConstants.{CLUSTER_ID, PROC_ID, JOB_STATUS}
-use Rattle.ad_names.specs.declared.pool.TheConstants.{RUN_CLAIM, RUN_NUMBER, LEASE_UNTIL}
+use Rattle.ad_value.specs.Groups.{pool_names}
+use Rattle.ad_value.specs.declared.names.job.TheConstants.{CLUSTER_ID, PROC_ID, JOB_STATUS}
+use Rattle.ad_value.specs.declared.names.pool.TheConstants.{RUN_CLAIM, RUN_NUMBER, LEASE_UNTIL}
 use Rattle.ad_tree.specs.Ad.{Attributes, lookup}
 use Rattle.ad_rows.specs.Rows.{integer_literal}
 use Rattle.ad_tree.specs.Tree.{Tree}

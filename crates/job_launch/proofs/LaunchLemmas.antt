@@ -6,7 +6,7 @@ use Rattle.std.proofs.lemmas.Str.{chars-nil}
 use Rattle.ad_value.specs.Bytes.{code}
 use Rattle.ad_value.specs.Content.{text}
 use Rattle.ad_value.specs.Names.{same_name}
-use Rattle.ad_names.specs.declared.job.TheConstants.{CMD, ARGS, ARGUMENTS, IWD, IN, OUT, ERR}
+use Rattle.ad_value.specs.declared.names.job.TheConstants.{CMD, ARGS, ARGUMENTS, IWD, IN, OUT, ERR}
 use Rattle.ad_tree.specs.Ad.{Attributes, lookup, with_attribute, without}
 use Rattle.ad_tree.specs.NameLaws.{same_name_equivalence}
 use Rattle.ad_tree.specs.Tree.{Tree, literal}

@@ -2,7 +2,7 @@
 -- Out, Err, Arguments and Args).
 use Rattle.std.specs.Prelude.{ℕ, Bool, true, false, List, [], ◌∷◌, Option, Some, is_some, unwrap_or, if◌then◌else◌}
 use Rattle.ad_value.specs.Content.{text}
-use Rattle.ad_names.specs.declared.job.TheConstants.{CMD, ARGS, ARGUMENTS, IWD, IN, OUT, ERR}
+use Rattle.ad_value.specs.declared.names.job.TheConstants.{CMD, ARGS, ARGUMENTS, IWD, IN, OUT, ERR}
 use Rattle.ad_tree.specs.Ad.{Attributes, lookup}
 use Rattle.ad_tree.specs.Tree.{Tree, literal}
 use Rattle.line_text.specs.Words.{words_of}

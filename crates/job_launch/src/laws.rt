@@ -5,7 +5,7 @@ ghost use Rattle.std.specs.List.{count_by, list_any};
 ghost use Rattle.ad_value.specs.Bytes.{code};
 ghost use Rattle.ad_value.specs.Content.{text};
 ghost use Rattle.ad_value.specs.Names.{same_name};
-ghost use Rattle.ad_names.specs.declared.job.TheConstants.{ARGS, ARGUMENTS};
+ghost use Rattle.ad_value.specs.declared.names.job.TheConstants.{ARGS, ARGUMENTS};
 ghost use Rattle.ad_tree.specs.Ad.{Attributes, lookup, with_attribute, without};
 ghost use Rattle.ad_tree.specs.Tree.{Tree, literal};
 ghost use Rattle.line_text.specs.Quoting.{quoted_words, word_bytes};

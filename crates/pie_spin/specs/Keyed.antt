@@ -2,7 +2,7 @@
 use Rattle.std.specs.Prelude.{◌≡◌, ℕ}
 use Rattle.std.specs.declared.cmp.Ordering.{Ordering}
 use Rattle.std.specs.Ordering.{ordering_then, int_cmp}
-use Rattle.ad_names.specs.declared.job.TheConstants.{JOB_PRIO, Q_DATE}
+use Rattle.ad_value.specs.declared.names.job.TheConstants.{JOB_PRIO, Q_DATE}
 use Rattle.pie_spin.specs.declared.opening.Keyed.{Keyed}
 use Rattle.pie_spin.specs.Opening.{number_in, job_cmp}
 

@@ -5,7 +5,7 @@ use Rattle.std.specs.List.Sorted.{IsPermutation, IsSortedBy}
 use Rattle.std.specs.declared.cmp.Ordering.{Ordering}
 use Rattle.std.specs.Ordering.{is_lt, ordering_then, nat_cmp, int_cmp}
 use Rattle.std.specs.Cmp.Lexicographic.{slice_cmp}
-use Rattle.ad_names.specs.declared.job.TheConstants.{JOB_PRIO, Q_DATE}
+use Rattle.ad_value.specs.declared.names.job.TheConstants.{JOB_PRIO, Q_DATE}
 use Rattle.ad_eval.specs.Match.{rank_as}
 use Rattle.ad_eval.specs.Mean.{attribute_value}
 use Rattle.claim_id.specs.declared.numbers.JobId.{JobId}

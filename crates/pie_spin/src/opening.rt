@@ -13,7 +13,7 @@ ghost use Rattle.pie_spin.specs.Opening as opening;
 use crate::course::{Account, Bidder};
 use crate::snapshot::{Snapshot, Submitter};
 use ad_eval::eval;
-use ad_names::job::{JOB_PRIO, Q_DATE};
+use ad_value::names::job::{JOB_PRIO, Q_DATE};
 use ad_value::{Copied, Memory, Value};
 use claim_id::JobId;
 use pool_mail::Request;

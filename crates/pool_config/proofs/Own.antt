@@ -6,7 +6,7 @@ use Rattle.ad_value.specs.Names.{same_name}
 use Rattle.ad_tree.specs.Ad.{Attributes, lookup, names, with_attribute}
 use Rattle.ad_tree.specs.Tree.{Tree}
 use Rattle.ad_token.specs.Names.{is_name}
-use Rattle.ad_names.specs.Groups.{pool_names}
+use Rattle.ad_value.specs.Groups.{pool_names}
 use Rattle.pool_settings.specs.declared.word.PoolWord.{PoolWord}
 use Rattle.pool_settings.specs.declared.word.SlotWord.{SlotWord}
 use Rattle.pool_settings.specs.Configuration.{ConfiguredMachine}

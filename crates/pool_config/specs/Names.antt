@@ -3,10 +3,10 @@ use Rattle.ad_value.specs.Bytes.{code}
 use Rattle.std.specs.Prelude.{ℕ, ◌==◌, ◌&&◌, ◌||◌, not, nat_eq, nat_lt, Bool, List, [], ◌∷◌, length, codes, find, Option, Some, None, option_map, if◌then◌else◌}
 use Rattle.std.specs.List.{list_any, list_all, position_or_len, before_first, after_first}
 use Rattle.ad_value.specs.Names.{same_name}
-use Rattle.ad_names.specs.declared.job.TheConstants.{ARGS, ARGUMENTS, CLUSTER_ID, CMD, ERR, IN, IWD, JOB_LEASE_DURATION, JOB_PRIO, JOB_UNIVERSE, ON_EXIT_HOLD, ON_EXIT_REMOVE, OUT, OWNER, PERIODIC_HOLD, PERIODIC_RELEASE, PERIODIC_REMOVE, PROC_ID, Q_DATE, REQUEST_CPUS, REQUEST_DISK, REQUEST_MEMORY, USER_LOG}
-use Rattle.ad_names.specs.declared.matching.TheConstants.{RANK, REQUIREMENTS}
-use Rattle.ad_names.specs.declared.slot.TheConstants.{ARCH, CPUS, DISK, MACHINE, MEMORY, MY_TYPE, NAME, OP_SYS, SLOT_ID, START}
-use Rattle.ad_names.specs.Groups.{pool_names}
+use Rattle.ad_value.specs.declared.names.job.TheConstants.{ARGS, ARGUMENTS, CLUSTER_ID, CMD, ERR, IN, IWD, JOB_LEASE_DURATION, JOB_PRIO, JOB_UNIVERSE, ON_EXIT_HOLD, ON_EXIT_REMOVE, OUT, OWNER, PERIODIC_HOLD, PERIODIC_RELEASE, PERIODIC_REMOVE, PROC_ID, Q_DATE, REQUEST_CPUS, REQUEST_DISK, REQUEST_MEMORY, USER_LOG}
+use Rattle.ad_value.specs.declared.names.matching.TheConstants.{RANK, REQUIREMENTS}
+use Rattle.ad_value.specs.declared.names.slot.TheConstants.{ARCH, CPUS, DISK, MACHINE, MEMORY, MY_TYPE, NAME, OP_SYS, SLOT_ID, START}
+use Rattle.ad_value.specs.Groups.{pool_names}
 use Rattle.ad_token.specs.Lexing.{is_blank}
 use Rattle.ad_token.specs.Names.{is_name, is_name_byte}
 use Rattle.ad_token.specs.Blanks.{trimmed_text}

@@ -1,7 +1,7 @@
 -- The slots of a configuration and their ads (HTCondor manual, "Machine ClassAd Attributes").
 use Rattle.std.specs.Prelude.{ℕ, zero, suc, ◌+◌, List, [], ◌∷◌, ◌++◌, codes, decimal, Option, Some, None}
-use Rattle.ad_names.specs.declared.matching.TheConstants.{RANK, REQUIREMENTS}
-use Rattle.ad_names.specs.declared.slot.TheConstants.{ARCH, CPUS, DISK, MACHINE, MEMORY, MY_TYPE, NAME, OP_SYS, SLOT_ID, START}
+use Rattle.ad_value.specs.declared.names.matching.TheConstants.{RANK, REQUIREMENTS}
+use Rattle.ad_value.specs.declared.names.slot.TheConstants.{ARCH, CPUS, DISK, MACHINE, MEMORY, MY_TYPE, NAME, OP_SYS, SLOT_ID, START}
 use Rattle.ad_rows.specs.Rows.{integer_literal, text_literal}
 use Rattle.ad_tree.specs.declared.operator.Scope.TheVariants.{Bare}
 use Rattle.ad_tree.specs.Ad.{Attributes, with_attribute}

@@ -10,7 +10,7 @@ use crate::loggable_jobs::are_loggable;
 use crate::outcome::memory;
 use crate::receipts::{read_ended, read_logged, read_reopen};
 use crate::rolls::Rolls;
-use ad_names::job::PROC_ID;
+use ad_value::names::job::PROC_ID;
 use ad_tree::{Ad, AdList, Expr, SetError};
 use ad_value::{Copied, Memory, Value};
 use cases::{Case, CaseError};

@@ -2,8 +2,8 @@
 use Rattle.std.proofs.Common.{◌≡◌, ℕ, Bool, true, false, not, cond, ◌||◌, ◌&&◌, List, [], ◌∷◌, filter, Some, None, refl, sym, ◌∙◌, ap}
 use Rattle.std.specs.List.{list_any}
 use Rattle.ad_value.specs.Names.{same_name}
-use Rattle.ad_names.specs.declared.pool.TheConstants.{RUN_CLAIM, RUN_NUMBER, LEASE_UNTIL}
-use Rattle.ad_names.specs.Groups.{run_names}
+use Rattle.ad_value.specs.declared.names.pool.TheConstants.{RUN_CLAIM, RUN_NUMBER, LEASE_UNTIL}
+use Rattle.ad_value.specs.Groups.{run_names}
 use Rattle.ad_tree.specs.Ad.{Attributes, lookup, without, AreDistinct}
 use Rattle.ad_tree.specs.NameLaws.{same_name_equivalence}
 use Rattle.ad_tree.specs.Tree.{Tree}

@@ -3,8 +3,8 @@ use Rattle.std.specs.Prelude.{ℕ, List, [], not, filter, Option, Some}
 use Rattle.std.specs.List.{list_any}
 use Rattle.ad_value.specs.Content.{text}
 use Rattle.ad_value.specs.Names.{same_name}
-use Rattle.ad_names.specs.Groups.{run_names}
-use Rattle.ad_names.specs.declared.job.TheConstants.{OWNER}
+use Rattle.ad_value.specs.Groups.{run_names}
+use Rattle.ad_value.specs.declared.names.job.TheConstants.{OWNER}
 use Rattle.ad_tree.specs.Ad.{Attributes, lookup}
 use Rattle.ad_tree.specs.Tree.{Tree, literal}
 

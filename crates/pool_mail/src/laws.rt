@@ -3,7 +3,7 @@
 ghost use Rattle.std.specs.Prelude.{◌≡◌, ℕ, List, true, false, None, Contains, IsSomeAnd};
 ghost use Rattle.std.specs.List.{list_any};
 ghost use Rattle.ad_value.specs.Names.{same_name};
-ghost use Rattle.ad_names.specs.Groups.{run_names};
+ghost use Rattle.ad_value.specs.Groups.{run_names};
 ghost use Rattle.ad_tree.specs.Ad.{Attributes, lookup};
 ghost use Rattle.pool_outer.specs.declared.gate.Daemon.TheVariants.{Startd};
 ghost use Rattle.pool_mail.specs.declared.mail.Mail.{Mail};

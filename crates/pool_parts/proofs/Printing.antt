@@ -10,8 +10,8 @@ use Rattle.std.proofs.lemmas.List.Elements.{All-from_get_or}
 use Rattle.std.proofs.lemmas.List.Folds.{list_all-append}
 use Rattle.std.proofs.lemmas.List.Sums.{list_all-from_AllPass}
 use Rattle.std.proofs.lemmas.Str.Parse.{numerals_by_value, tells_by_index}
-use Rattle.ad_names.specs.declared.job.TheConstants.{JOB_STATUS}
-use Rattle.ad_names.specs.declared.pool.TheConstants.{HOLD_REASON, EXIT_BY_SIGNAL, EXIT_CODE, EXIT_SIGNAL, RUN_CLAIM, RUN_NUMBER, LEASE_UNTIL}
+use Rattle.ad_value.specs.declared.names.job.TheConstants.{JOB_STATUS}
+use Rattle.ad_value.specs.declared.names.pool.TheConstants.{HOLD_REASON, EXIT_BY_SIGNAL, EXIT_CODE, EXIT_SIGNAL, RUN_CLAIM, RUN_NUMBER, LEASE_UNTIL}
 use Rattle.ad_value.specs.Content.{integer, text, truth}
 use Rattle.ad_rows.specs.Rows.{integer_literal, text_literal}
 use Rattle.ad_tree.specs.Tree.{literal}

@@ -5,7 +5,7 @@ ghost use Rattle.ad_tree.specs.declared.ad.TheConstants.{MAX_ATTRIBUTES};
 ghost use Rattle.ad_tree.specs.Tree.{tree};
 ghost use Rattle.pool_mail.specs.Ads.{request_ad};
 
-use ad_names::is_run_name;
+use ad_value::names::is_run_name;
 use ad_tree::{Ad, Expr};
 
 /// Whether an ad is that with which slots are judged of a job with the other one, as spelled and in

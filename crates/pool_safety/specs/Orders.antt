@@ -1,6 +1,6 @@
 -- The events by which a job's removal is ordered.
 use Rattle.std.specs.Prelude.{◌≡◌, true, slice_get, IsSomeAnd}
-use Rattle.ad_names.specs.declared.job.TheConstants.{PERIODIC_REMOVE}
+use Rattle.ad_value.specs.declared.names.job.TheConstants.{PERIODIC_REMOVE}
 use Rattle.claim_id.specs.declared.numbers.JobId.{JobId}
 use Rattle.pool_parts.specs.declared.event.Event.{Event}
 use Rattle.pool_parts.specs.declared.event.Event.TheVariants as event

@@ -6,7 +6,7 @@ use Rattle.std.proofs.Math.Seq.{drop-cons}
 use Rattle.std.proofs.lemmas.Bool.{ltb-true, ltb-false}
 use Rattle.std.proofs.lemmas.List.{drop_all}
 use Rattle.std.proofs.lemmas.Option.{slice_get_within, get_or_from_slice_get, slice_get-get_or}
-use Rattle.ad_names.specs.Groups.{pool_names}
+use Rattle.ad_value.specs.Groups.{pool_names}
 use Rattle.ad_tree.specs.Ad.{Attributes}
 use Rattle.ad_tree.specs.Tree.{Tree}
 use Rattle.ad_value.specs.Names.{same_name}

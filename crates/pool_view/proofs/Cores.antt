@@ -1,9 +1,9 @@
 -- The core of a job's ad.
 use Rattle.std.proofs.Common.{◌≡◌, Bool, true, false, cond, not, ◌||◌, List, [], ◌∷◌, filter, refl, sym, ◌∙◌, ap}
 use Rattle.std.specs.List.{list_any}
-use Rattle.ad_names.specs.declared.job.TheConstants.{JOB_STATUS}
-use Rattle.ad_names.specs.declared.pool.TheConstants.{HOLD_REASON, EXIT_BY_SIGNAL, EXIT_CODE, EXIT_SIGNAL}
-use Rattle.ad_names.specs.Groups.{run_names, pool_names}
+use Rattle.ad_value.specs.declared.names.job.TheConstants.{JOB_STATUS}
+use Rattle.ad_value.specs.declared.names.pool.TheConstants.{HOLD_REASON, EXIT_BY_SIGNAL, EXIT_CODE, EXIT_SIGNAL}
+use Rattle.ad_value.specs.Groups.{run_names, pool_names}
 use Rattle.ad_tree.specs.Ad.{Attributes}
 use Rattle.ad_value.specs.Names.{same_name}
 use Rattle.pool_mail.specs.Ads.{request_ad}

@@ -1,7 +1,7 @@
 -- What a pool knows of ads and of matches.
 use Rattle.std.specs.Prelude.{◌≡◌, true, not, filter}
 use Rattle.std.specs.List.{list_any}
-use Rattle.ad_names.specs.Groups.{pool_names}
+use Rattle.ad_value.specs.Groups.{pool_names}
 use Rattle.ad_tree.specs.Ad.{Attributes}
 use Rattle.ad_value.specs.Names.{same_name}
 use Rattle.ad_eval.specs.Judgement.{Judgement}

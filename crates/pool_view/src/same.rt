@@ -5,7 +5,7 @@ ghost use Rattle.pool_view.specs.Ads.{core_of};
 
 use crate::run::Run;
 use ad_eval::Judged;
-use ad_names::is_pool_name;
+use ad_value::names::is_pool_name;
 use ad_tree::{Ad, Expr};
 
 impl Run {

@@ -2,7 +2,7 @@
 use Rattle.std.proofs.Common.{◌≡◌, ◌↔◌, ℕ, zero, suc, ◌<◌, Bool, true, false, not, ◌||◌, cond, List, [], ◌∷◌, length, Option, Some, None, slice_get, IsTrue, refl, ap, sym, ◌∙◌, arith}
 use Rattle.std.specs.List.{list_any}
 use Rattle.ad_value.specs.Names.{same_name}
-use Rattle.ad_names.specs.Groups.{names_beside_request}
+use Rattle.ad_value.specs.Groups.{names_beside_request}
 use Rattle.ad_tree.specs.Tree.{Tree}
 use Rattle.ad_tree.specs.Ad.{Attributes, lookup, AreDistinct}
 use Rattle.ad_tree.specs.NameLaws.{same_name_equivalence}

@@ -1,8 +1,8 @@
 -- What the ad of a proc makes of its job (HTCondor manual, Job ClassAd Attributes, JobStatus).
 use Rattle.std.specs.Prelude.{ℤ, pos, negsuc, ◌==◌, ◌||◌, is_some, Option, Some, None, if◌then◌else◌}
 use Rattle.ad_value.specs.Content.{integer}
-use Rattle.ad_names.specs.declared.job.TheConstants.{JOB_STATUS}
-use Rattle.ad_names.specs.declared.pool.TheConstants.{RUN_CLAIM}
+use Rattle.ad_value.specs.declared.names.job.TheConstants.{JOB_STATUS}
+use Rattle.ad_value.specs.declared.names.pool.TheConstants.{RUN_CLAIM}
 use Rattle.ad_tree.specs.Tree.{Tree, literal}
 use Rattle.ad_tree.specs.Ad.{Attributes, lookup}
 use Rattle.queue_tx.specs.declared.kind.JobKind.{JobKind}

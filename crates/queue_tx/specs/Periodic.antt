@@ -2,7 +2,7 @@
 -- periodic_remove, periodic_release).
 use Rattle.std.specs.Prelude.{◌≡◌, Bool, true, false, ◌&&◌, ◌||◌, List, Option, Some, None, is_some, MatchOption, if◌then◌else◌}
 use Rattle.std.specs.Option.{option_map}
-use Rattle.ad_names.specs.declared.job.TheConstants.{PERIODIC_HOLD, PERIODIC_REMOVE, PERIODIC_RELEASE}
+use Rattle.ad_value.specs.declared.names.job.TheConstants.{PERIODIC_HOLD, PERIODIC_REMOVE, PERIODIC_RELEASE}
 use Rattle.ad_tree.specs.Ad.{Attributes, lookup}
 use Rattle.queue_tx.specs.declared.key.Key.{Key}
 use Rattle.queue_tx.specs.declared.key.Key.TheVariants.{Header, Proc}

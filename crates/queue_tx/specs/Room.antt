@@ -4,7 +4,7 @@ use Rattle.std.specs.Prelude.{ℕ, ◌&&◌, ◌||◌, not, nat_le, Bool, List, 
 use Rattle.std.specs.Option.{option_map_or}
 use Rattle.std.specs.List.{list_any}
 use Rattle.ad_value.specs.Names.{same_name}
-use Rattle.ad_names.specs.Groups.{pool_names}
+use Rattle.ad_value.specs.Groups.{pool_names}
 use Rattle.ad_tree.specs.Tree.{Tree}
 use Rattle.ad_tree.specs.Ad.{Attributes, lookup}
 use Rattle.ad_parse.specs.AdText.{is_full_for}

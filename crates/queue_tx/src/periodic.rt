@@ -5,7 +5,7 @@ ghost use Rattle.queue_tx.specs.Periodic.{has_periodic, is_periodic, periodic_ke
 use crate::kept::{Here, KeySet, clear, set};
 use crate::key::Key;
 use crate::kind::kind_of;
-use ad_names::job::{PERIODIC_HOLD, PERIODIC_RELEASE, PERIODIC_REMOVE};
+use ad_value::names::job::{PERIODIC_HOLD, PERIODIC_RELEASE, PERIODIC_REMOVE};
 use ad_tree::Ad;
 use ad_value::Memory;
 use ordered_map::NewEntry;

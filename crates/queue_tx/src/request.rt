@@ -6,12 +6,12 @@ ghost use Rattle.queue_tx.specs.RequestDigests.{asked_digest, request_digest};
 ghost use Rattle.queue_tx.specs.Requests.{is_asked, AgreesAt, AsksWithin, SameRequest};
 
 use ad_digest::attribute_digest;
-use ad_names::is_run_name;
-use ad_names::job::{
+use ad_value::names::is_run_name;
+use ad_value::names::job::{
     ARGS, ARGUMENTS, CLUSTER_ID, CMD, ERR, IN, IWD, JOB_PRIO, JOB_STATUS, OUT, PROC_ID, Q_DATE,
     USER_LOG,
 };
-use ad_names::pool::HOLD_REASON;
+use ad_value::names::pool::HOLD_REASON;
 use ad_tree::{Ad, Expr};
 use ad_value::same_name;
 

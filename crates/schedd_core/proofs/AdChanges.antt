@@ -2,7 +2,7 @@
 use Rattle.std.proofs.Common.{◌≡◌, ℕ, Bool, true, false, cond, not, ◌||◌, List, [], ◌∷◌, Some, None, refl, ap, sym, ◌∙◌}
 use Rattle.std.specs.List.{list_any}
 use Rattle.ad_value.specs.Names.{same_name}
-use Rattle.ad_names.specs.Groups.{pool_names}
+use Rattle.ad_value.specs.Groups.{pool_names}
 use Rattle.ad_tree.specs.Ad.{Attributes, lookup, with_attribute, without, AreDistinct}
 use Rattle.ad_tree.specs.NameLaws.{same_name_equivalence}
 use Rattle.ad_tree.specs.Tree.{Tree}

@@ -4,7 +4,7 @@ use Rattle.std.specs.declared.cmp.Ordering.{Ordering}
 use Rattle.std.specs.declared.cmp.Ordering.TheVariants.{Less, Equal, Greater}
 use Rattle.std.specs.Ordering.{is_lt, is_eq}
 use Rattle.ad_value.specs.Content.{text}
-use Rattle.ad_names.specs.declared.pool.TheConstants.{RUN_CLAIM}
+use Rattle.ad_value.specs.declared.names.pool.TheConstants.{RUN_CLAIM}
 use Rattle.ad_rows.specs.Rows.{text_literal}
 use Rattle.ad_tree.specs.Tree.{Tree, literal}
 use Rattle.ad_tree.specs.Ad.{Attributes, lookup}

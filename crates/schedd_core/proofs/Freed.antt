@@ -6,7 +6,7 @@ use Rattle.pool_mail.specs.declared.end.How.{How}
 use Rattle.pool_mail.specs.declared.end.How.TheVariants as how
 use Rattle.queue_tx.specs.declared.key.Key.TheVariants.{Proc}
 use Rattle.queue_tx.specs.Queues.{KeyedAds, ad_at}
-use Rattle.ad_names.specs.declared.job.TheConstants.{ON_EXIT_HOLD}
+use Rattle.ad_value.specs.declared.names.job.TheConstants.{ON_EXIT_HOLD}
 use Rattle.schedd_plan.specs.declared.plan.Completion.{Completion}
 use Rattle.schedd_plan.specs.declared.plan.JobPlan.{JobPlan}
 use Rattle.schedd_plan.specs.declared.plan.JobPlan.TheVariants as plan

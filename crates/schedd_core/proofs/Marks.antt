@@ -5,8 +5,8 @@ use Rattle.std.specs.declared.cmp.Ordering.{Ordering}
 use Rattle.std.specs.declared.cmp.Ordering.TheVariants.{Less, Equal, Greater}
 use Rattle.std.specs.Ordering.{is_lt, is_gt, ordering_reverse}
 use Rattle.std.specs.Map.{lookup, remove_entry}
-use Rattle.ad_names.specs.declared.job.TheConstants.{JOB_STATUS, PERIODIC_HOLD, PERIODIC_REMOVE, PERIODIC_RELEASE}
-use Rattle.ad_names.specs.declared.pool.TheConstants.{HOLD_REASON, RUN_CLAIM, RUN_NUMBER, LEASE_UNTIL}
+use Rattle.ad_value.specs.declared.names.job.TheConstants.{JOB_STATUS, PERIODIC_HOLD, PERIODIC_REMOVE, PERIODIC_RELEASE}
+use Rattle.ad_value.specs.declared.names.pool.TheConstants.{HOLD_REASON, RUN_CLAIM, RUN_NUMBER, LEASE_UNTIL}
 use Rattle.ad_rows.specs.Rows.{integer_literal, text_literal}
 use Rattle.ad_tree.specs.Ad as ad
 use Rattle.ad_tree.specs.Ad.{Attributes, with_attribute, without}

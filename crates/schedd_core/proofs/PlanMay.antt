@@ -240,7 +240,7 @@ module _ (p : Protocol) (q : KeyedAds) (v : ScheddValue) (part : IsPart p q v) w
     by_policy c reading is false false = idles
 
     at_end : (c : Completion) (reading : ℕ) → h ≡ how_of c → MayPend p (change_at u.entry.state (plan_at_end r.job u.ad c reading))
-    at_end c reading is = by_policy c reading is (is_asked_by (ad_after_exit c u.ad) reading Rattle.ad_names.specs.declared.job.TheConstants.ON_EXIT_HOLD.now) (is_remove_asked (ad_after_exit c u.ad) reading)
+    at_end c reading is = by_policy c reading is (is_asked_by (ad_after_exit c u.ad) reading Rattle.ad_value.specs.declared.names.job.TheConstants.ON_EXIT_HOLD.now) (is_remove_asked (ad_after_exit c u.ad) reading)
 
     marked : status_of u.ad ≡ status.Removed → IsIn r.job p.removals
     marked = marked_job r.job u.ad u.ad_is (run_kind u.ad r.claim r.number u.end u.names)

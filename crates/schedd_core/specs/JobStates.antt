@@ -1,6 +1,6 @@
 -- How the queue as logged shows the jobs of the abstract pool.
 use Rattle.std.specs.Prelude.{◌≡◌, ℕ, Bool, true, false, List, Option, Some, None, IfSome}
-use Rattle.ad_names.specs.declared.pool.TheConstants.{RUN_CLAIM}
+use Rattle.ad_value.specs.declared.names.pool.TheConstants.{RUN_CLAIM}
 use Rattle.ad_rows.specs.Rows.{text_literal}
 use Rattle.ad_tree.specs.Ad.{Attributes, lookup}
 use Rattle.claim_id.specs.declared.numbers.ClaimId.{ClaimId}

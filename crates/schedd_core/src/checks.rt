@@ -8,7 +8,7 @@ ghost use Rattle.schedd_state.specs.Schedds.{waits_for};
 ghost use Rattle.schedd_core.specs.Checks.{policy_plan, after_check};
 
 use ad_eval::holds;
-use ad_names::job::{PERIODIC_HOLD, PERIODIC_RELEASE, PERIODIC_REMOVE};
+use ad_value::names::job::{PERIODIC_HOLD, PERIODIC_RELEASE, PERIODIC_REMOVE};
 use ad_tree::Ad;
 use ad_value::Memory;
 use claim_id::JobId;

@@ -2,8 +2,8 @@
 use Rattle.std.specs.Prelude.{ℕ, ℤ, pos, negsuc, ◌==◌, int_lt, unsigned_abs, List, Option, Some, None, if◌then◌else◌}
 use Rattle.std.specs.Str.{bytes_eq}
 use Rattle.ad_value.specs.Content.{integer, text}
-use Rattle.ad_names.specs.declared.job.TheConstants.{JOB_STATUS}
-use Rattle.ad_names.specs.declared.pool.TheConstants.{HOLD_REASON, LEASE_UNTIL, RUN_NUMBER}
+use Rattle.ad_value.specs.declared.names.job.TheConstants.{JOB_STATUS}
+use Rattle.ad_value.specs.declared.names.pool.TheConstants.{HOLD_REASON, LEASE_UNTIL, RUN_NUMBER}
 use Rattle.ad_tree.specs.Tree.{Tree, literal}
 use Rattle.ad_tree.specs.Ad.{Attributes, lookup}
 use Rattle.schedd_plan.specs.declared.reason.Reason.{Reason}

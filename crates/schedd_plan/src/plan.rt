@@ -6,7 +6,7 @@ use crate::ops::{
     truth_expr, whole_expr,
 };
 use crate::reason::Reason;
-use ad_names::pool::{
+use ad_value::names::pool::{
     EXIT_BY_SIGNAL, EXIT_CODE, EXIT_SIGNAL, HOLD_REASON, LEASE_UNTIL, RUN_CLAIM, RUN_NUMBER,
 };
 use ad_value::{Memory, Text};

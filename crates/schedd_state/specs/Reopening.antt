@@ -1,7 +1,7 @@
 -- What the schedd finds in the queue when it comes back.
 use Rattle.std.specs.Prelude.{◌≡◌, ◌↔◌, ℕ, ◌+◌, ◌&&◌, Bool, true, false, List, [], ◌∷◌, ◌++◌, filter, Option, Some, None, nat_lt, nat_le, if◌then◌else◌}
 use Rattle.ad_value.specs.Content.{text}
-use Rattle.ad_names.specs.declared.pool.TheConstants.{RUN_CLAIM}
+use Rattle.ad_value.specs.declared.names.pool.TheConstants.{RUN_CLAIM}
 use Rattle.ad_tree.specs.Tree.{Tree, literal}
 use Rattle.ad_tree.specs.Ad.{Attributes, lookup}
 use Rattle.claim_id.specs.declared.numbers.ClaimId.{ClaimId}

@@ -1,8 +1,8 @@
 -- What becomes of a job whose run has ended, by how it ended and by the job's JobStatus (HTCondor
 -- manual, condor_submit, on_exit_hold and on_exit_remove).
 use Rattle.std.specs.Prelude.{ℕ, Bool, true, false, Option, Some, None, List, [], if◌then◌else◌}
-use Rattle.ad_names.specs.declared.job.TheConstants.{ON_EXIT_HOLD, ON_EXIT_REMOVE}
-use Rattle.ad_names.specs.declared.pool.TheConstants.{EXIT_BY_SIGNAL, EXIT_CODE, EXIT_SIGNAL}
+use Rattle.ad_value.specs.declared.names.job.TheConstants.{ON_EXIT_HOLD, ON_EXIT_REMOVE}
+use Rattle.ad_value.specs.declared.names.pool.TheConstants.{EXIT_BY_SIGNAL, EXIT_CODE, EXIT_SIGNAL}
 use Rattle.ad_tree.specs.Tree.{Tree}
 use Rattle.ad_tree.specs.Ad.{Attributes, lookup, with_attribute}
 use Rattle.ad_eval.specs.Match.{holds_as}

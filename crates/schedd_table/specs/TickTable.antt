@@ -1,7 +1,7 @@
 -- What is due at a reading: of a run, of a claim, and the first of all.
 use Rattle.std.specs.Prelude.{ℕ, Bool, true, false, ◌+◌, ◌&&◌, ◌||◌, List, [], position, Option, Some, None, nat_lt, nat_le, if◌then◌else◌}
 use Rattle.ad_value.specs.Content.{Content, integer}
-use Rattle.ad_names.specs.declared.job.TheConstants.{JOB_LEASE_DURATION}
+use Rattle.ad_value.specs.declared.names.job.TheConstants.{JOB_LEASE_DURATION}
 use Rattle.ad_tree.specs.Ad.{Attributes}
 use Rattle.ad_eval.specs.Mean.{attribute_value}
 use Rattle.claim_id.specs.declared.numbers.JobId.{JobId}

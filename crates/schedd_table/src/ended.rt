@@ -9,8 +9,8 @@ ghost use Rattle.schedd_table.specs.EndTable.{completion_of, ad_after_exit, is_r
 
 use crate::places::let_go_ad;
 use ad_eval::holds;
-use ad_names::job::{ON_EXIT_HOLD, ON_EXIT_REMOVE};
-use ad_names::pool::{EXIT_BY_SIGNAL, EXIT_CODE, EXIT_SIGNAL};
+use ad_value::names::job::{ON_EXIT_HOLD, ON_EXIT_REMOVE};
+use ad_value::names::pool::{EXIT_BY_SIGNAL, EXIT_CODE, EXIT_SIGNAL};
 use ad_tree::{Ad, Expr};
 use ad_value::{Copied, Memory, Value};
 use claim_id::JobId;

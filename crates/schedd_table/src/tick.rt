@@ -9,7 +9,7 @@ use crate::claims::{KeptClaim, Stage};
 use crate::places::{ad_of, is_idle_at};
 use crate::runs::{KeptRun, has_job_under};
 use ad_eval::eval;
-use ad_names::job::JOB_LEASE_DURATION;
+use ad_value::names::job::JOB_LEASE_DURATION;
 use ad_tree::Ad;
 use ad_value::{Memory, Value};
 use claim_id::JobId;

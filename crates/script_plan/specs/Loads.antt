@@ -1,7 +1,7 @@
 -- The ads of a load's jobs (HTCondor manual, "Job ClassAd Attributes").
 use Rattle.std.specs.Prelude.{ℕ, zero, suc, ◌+◌, ◌*◌, ◌/◌, ◌%◌, List, [], ◌∷◌, ◌++◌, codes}
-use Rattle.ad_names.specs.declared.job.TheConstants.{ARGS, CLUSTER_ID, CMD, ERR, IN, IWD, JOB_PRIO, JOB_STATUS, JOB_UNIVERSE, OUT, OWNER, PROC_ID, Q_DATE, REQUEST_CPUS, REQUEST_DISK, REQUEST_MEMORY}
-use Rattle.ad_names.specs.declared.matching.TheConstants.{RANK, REQUIREMENTS}
+use Rattle.ad_value.specs.declared.names.job.TheConstants.{ARGS, CLUSTER_ID, CMD, ERR, IN, IWD, JOB_PRIO, JOB_STATUS, JOB_UNIVERSE, OUT, OWNER, PROC_ID, Q_DATE, REQUEST_CPUS, REQUEST_DISK, REQUEST_MEMORY}
+use Rattle.ad_value.specs.declared.names.matching.TheConstants.{RANK, REQUIREMENTS}
 use Rattle.ad_rows.specs.Requests.{enough}
 use Rattle.ad_rows.specs.Rows.{integer_literal, text_literal}
 use Rattle.ad_tree.specs.Ad.{Attributes}

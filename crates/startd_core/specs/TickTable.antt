@@ -2,7 +2,7 @@
 use Rattle.std.specs.Prelude.{ℕ, pos, Bool, true, false, not, ◌+◌, List, [], ◌∷◌, Option, Some, None, nat_le, if◌then◌else◌}
 use Rattle.std.specs.Ordering.{int_eq}
 use Rattle.ad_value.specs.Content.{Content, truth, integer}
-use Rattle.ad_names.specs.declared.slot.TheConstants.{START}
+use Rattle.ad_value.specs.declared.names.slot.TheConstants.{START}
 use Rattle.ad_tree.specs.Ad.{Attributes}
 use Rattle.ad_eval.specs.Mean.{attribute_value}
 use Rattle.claim_id.specs.declared.numbers.RunNo.{RunNo}

@@ -8,7 +8,7 @@ ghost use Rattle.startd_core.specs.declared.tick.TickRow.{TickRow};
 ghost use Rattle.startd_core.specs.declared.tick.TickRow.TheVariants as rows;
 
 use ad_eval::eval;
-use ad_names::slot::START;
+use ad_value::names::slot::START;
 use ad_value::{Memory, Value};
 use pool_mail::Settings;
 use slot_state::{Cue, Pair};

@@ -3,8 +3,8 @@ use Rattle.std.proofs.Common.{◌≡◌, ℕ, Bool, true, false, true≢false, c
 use Rattle.std.specs.Prelude.{slice_index, ◌==◌, codes, length, drop, nat_eq}
 use Rattle.ad_value.specs.Bytes.{code}
 use Rattle.ad_value.specs.Names.{same_name}
-use Rattle.ad_names.specs.declared.job.TheConstants.{CLUSTER_ID, PROC_ID, OWNER, Q_DATE, JOB_STATUS, JOB_UNIVERSE, ARGS, ARGUMENTS}
-use Rattle.ad_names.specs.declared.pool.TheConstants.{RUN_CLAIM, RUN_NUMBER, LEASE_UNTIL}
+use Rattle.ad_value.specs.declared.names.job.TheConstants.{CLUSTER_ID, PROC_ID, OWNER, Q_DATE, JOB_STATUS, JOB_UNIVERSE, ARGS, ARGUMENTS}
+use Rattle.ad_value.specs.declared.names.pool.TheConstants.{RUN_CLAIM, RUN_NUMBER, LEASE_UNTIL}
 use Rattle.ad_token.specs.Blanks.{trimmed_text}
 use Rattle.ad_token.specs.Names.{is_name, word_of}
 use Rattle.ad_tree.proofs.AdLemmas.{other_way}

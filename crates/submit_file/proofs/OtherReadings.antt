@@ -6,8 +6,8 @@ use Rattle.std.specs.Cmp.Lexicographic.{bytes_decides}
 use Rattle.std.specs.List.{AllZip, fold, list_any}
 use Rattle.std.proofs.lemmas.Bool.{false≢true}
 use Rattle.ad_value.specs.Names.{lowercase, same_name}
-use Rattle.ad_names.specs.Groups.{pool_names}
-use Rattle.ad_names.specs.declared.job.TheConstants.{Q_DATE, JOB_STATUS, JOB_UNIVERSE}
+use Rattle.ad_value.specs.Groups.{pool_names}
+use Rattle.ad_value.specs.declared.names.job.TheConstants.{Q_DATE, JOB_STATUS, JOB_UNIVERSE}
 use Rattle.ad_tree.specs.Ad.{Attributes, lookup, with_attribute}
 use Rattle.ad_tree.specs.Tree.{Tree}
 use Rattle.ad_parse.specs.AdText.{is_full_for}

@@ -2,7 +2,7 @@
 use Rattle.std.proofs.Math.Seq.{drop-cons}
 use Rattle.std.proofs.lemmas.List.{drop_all, take_more}
 use Rattle.std.proofs.Common.{◌≡◌, ℕ, zero, suc, ◌+◌, ◌<◌, ◌≤◌, false, ◌∷◌, ◌++◌, map, length, get_or, take, drop, append_assoc, arith, List, Option, Some, None, Result, Ok, Err, OnOk, IfOk, [], refl, ap, sym, ◌∙◌, subst, option_map}
-use Rattle.ad_names.specs.declared.job.TheConstants.{CLUSTER_ID, PROC_ID, Q_DATE, JOB_UNIVERSE, JOB_STATUS}
+use Rattle.ad_value.specs.declared.names.job.TheConstants.{CLUSTER_ID, PROC_ID, Q_DATE, JOB_UNIVERSE, JOB_STATUS}
 use Rattle.ad_tree.specs.Ad.{Attributes}
 use Rattle.ad_tree.specs.declared.tree.Expr.{Expr}
 use Rattle.ad_tree.specs.Tree.{Tree, tree}

@@ -1,7 +1,7 @@
 -- Where the attributes of a job come from.
 use Rattle.std.specs.Prelude.{ℕ, List, codes, Option, Some, None, Result, Ok}
 use Rattle.ad_value.specs.Content.{text}
-use Rattle.ad_names.specs.declared.job.TheConstants.{OWNER}
+use Rattle.ad_value.specs.declared.names.job.TheConstants.{OWNER}
 use Rattle.ad_tree.specs.Tree.{Tree, literal}
 use Rattle.submit_values.specs.declared.command.Command.{Command}
 use Rattle.submit_values.specs.declared.error.ValueError.{ValueError}

@@ -2,7 +2,7 @@
 use Rattle.std.specs.Prelude.{◌≡◌, ℕ, false, List, Ok, Err}
 use Rattle.std.specs.List.{AllZip}
 use Rattle.ad_value.specs.Names.{same_name}
-use Rattle.ad_names.specs.declared.job.TheConstants.{Q_DATE}
+use Rattle.ad_value.specs.declared.names.job.TheConstants.{Q_DATE}
 use Rattle.ad_tree.specs.Ad.{Attributes}
 use Rattle.ad_tree.specs.Tree.{Tree}
 use Rattle.submit_file.specs.OneJob.{Common}

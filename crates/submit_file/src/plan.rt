@@ -12,7 +12,7 @@ use crate::error::SubmitError;
 use crate::setting::Setting;
 use crate::source::Source;
 use crate::statement::{Contribution, NamedValue, Statement};
-use ad_names::job::{CLUSTER_ID, JOB_STATUS, JOB_UNIVERSE, PROC_ID, Q_DATE};
+use ad_value::names::job::{CLUSTER_ID, JOB_STATUS, JOB_UNIVERSE, PROC_ID, Q_DATE};
 use ad_tree::{Ad, Expr};
 use ad_value::{Memory, Value};
 use line_text::MacroTable;

@@ -6,7 +6,7 @@ ghost use Rattle.submit_values.specs.Values.{GivesValue, some_of};
 ghost use Rattle.submit_file.specs.Origins.{origin_of, setting_for, name_for, value_for, preset_for};
 
 use crate::setting::{LinesSoFar, Setting};
-use ad_names::job::OWNER;
+use ad_value::names::job::OWNER;
 use ad_tree::Expr;
 use ad_value::{Text, Value};
 use std::alloc::Global;

@@ -3,8 +3,8 @@ use Rattle.ad_value.specs.Bytes.{code}
 use Rattle.std.specs.Prelude.{ℕ, ◌==◌, ◌&&◌, ◌||◌, not, nat_eq, nat_lt, Bool, List, length, take, drop, codes, Option, Some, None, if◌then◌else◌}
 use Rattle.std.specs.List.{list_any, prefix_len, position_or_len, before_first, after_first}
 use Rattle.ad_value.specs.Names.{same_name}
-use Rattle.ad_names.specs.declared.job.TheConstants.{CLUSTER_ID, PROC_ID, OWNER, Q_DATE, JOB_STATUS}
-use Rattle.ad_names.specs.Groups.{run_names}
+use Rattle.ad_value.specs.declared.names.job.TheConstants.{CLUSTER_ID, PROC_ID, OWNER, Q_DATE, JOB_STATUS}
+use Rattle.ad_value.specs.Groups.{run_names}
 use Rattle.ad_token.specs.Names.{is_name_byte, name_length}
 use Rattle.ad_token.specs.Blanks.{past_blanks}
 

@@ -1,12 +1,12 @@
 ghost use Rattle.std.specs.Prelude.{◌≡◌};
 ghost use Rattle.submit_values.specs.Commands.{command_name, attribute_name};
 
-use ad_names::job::{
+use ad_value::names::job::{
     ARGS, ARGUMENTS, CMD, ERR, IN, IWD, JOB_LEASE_DURATION, JOB_PRIO, ON_EXIT_HOLD, ON_EXIT_REMOVE,
     OUT, PERIODIC_HOLD, PERIODIC_RELEASE, PERIODIC_REMOVE, REQUEST_CPUS, REQUEST_DISK,
     REQUEST_MEMORY, USER_LOG,
 };
-use ad_names::matching::{RANK, REQUIREMENTS};
+use ad_value::names::matching::{RANK, REQUIREMENTS};
 
 /// A command that makes an attribute of a job, or that is looked at for it.
 #[derive(Clone, Copy, Debug, PartialEq, Eq)]

@@ -3,7 +3,7 @@ ghost use Rattle.ad_tree.specs.Tree.{tree};
 ghost use Rattle.job_ads.specs.Submitted.{own_attributes};
 ghost use Rattle.submit_values.specs.JobAds.{own_at, added, finished};
 
-use ad_names::is_pool_name;
+use ad_value::names::is_pool_name;
 use ad_tree::{Ad, Expr, SetError};
 use ad_value::Memory;
 use job_ads::MAX_OWN_ATTRIBUTES;

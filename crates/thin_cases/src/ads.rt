@@ -1,6 +1,6 @@
-use ad_names::job::CMD;
-use ad_names::matching::REQUIREMENTS;
-use ad_names::slot::START;
+use ad_value::names::job::CMD;
+use ad_value::names::matching::REQUIREMENTS;
+use ad_value::names::slot::START;
 use ad_tree::{Ad, AdList, Expr, Scope};
 use ad_value::{Copied, Memory, Text, Value};
 use claim_id::SlotId;

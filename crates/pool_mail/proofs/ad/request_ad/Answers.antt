@@ -1,5 +1,5 @@
 use Rattle.std.proofs.Common.{◌∙◌, ap}
-use Rattle.ad_names.specs.declared.pool.TheConstants.{RUN_CLAIM, RUN_NUMBER, LEASE_UNTIL}
+use Rattle.ad_value.specs.declared.names.pool.TheConstants.{RUN_CLAIM, RUN_NUMBER, LEASE_UNTIL}
 use Rattle.ad_tree.specs.Ad.{without}
 use Rattle.pool_mail.proofs.RunNames.{without_run_names}
 use Rattle.pool_mail.proofs.ad.request_ad.Goals as goal

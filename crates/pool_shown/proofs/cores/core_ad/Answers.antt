@@ -1,6 +1,6 @@
 use Rattle.std.proofs.Common.{◌∙◌, ap}
-use Rattle.ad_names.specs.declared.job.TheConstants.{JOB_STATUS}
-use Rattle.ad_names.specs.declared.pool.TheConstants.{HOLD_REASON, EXIT_BY_SIGNAL, EXIT_CODE, EXIT_SIGNAL, RUN_CLAIM, RUN_NUMBER, LEASE_UNTIL}
+use Rattle.ad_value.specs.declared.names.job.TheConstants.{JOB_STATUS}
+use Rattle.ad_value.specs.declared.names.pool.TheConstants.{HOLD_REASON, EXIT_BY_SIGNAL, EXIT_CODE, EXIT_SIGNAL, RUN_CLAIM, RUN_NUMBER, LEASE_UNTIL}
 use Rattle.ad_tree.specs.Ad.{without}
 use Rattle.pool_shown.proofs.CoreNames.{without_pool_names}
 use Rattle.pool_shown.proofs.cores.core_ad.Goals as goal

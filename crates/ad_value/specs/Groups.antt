@@ -1,7 +1,7 @@
 -- Names of attributes by what they are for.
 use Rattle.std.specs.Prelude.{ℕ, List, [], ◌∷◌}
-use Rattle.ad_names.specs.declared.job.TheConstants.{CLUSTER_ID, PROC_ID, Q_DATE, JOB_STATUS, CMD, ARGS, ARGUMENTS, IWD, IN, OUT, ERR, USER_LOG, JOB_PRIO}
-use Rattle.ad_names.specs.declared.pool.TheConstants.{HOLD_REASON, EXIT_BY_SIGNAL, EXIT_CODE, EXIT_SIGNAL, RUN_CLAIM, RUN_NUMBER, LEASE_UNTIL}
+use Rattle.ad_value.specs.declared.names.job.TheConstants.{CLUSTER_ID, PROC_ID, Q_DATE, JOB_STATUS, CMD, ARGS, ARGUMENTS, IWD, IN, OUT, ERR, USER_LOG, JOB_PRIO}
+use Rattle.ad_value.specs.declared.names.pool.TheConstants.{HOLD_REASON, EXIT_BY_SIGNAL, EXIT_CODE, EXIT_SIGNAL, RUN_CLAIM, RUN_NUMBER, LEASE_UNTIL}
 
 -- what a job has only while it runs
 abbrev pub run_names : List (List ℕ)

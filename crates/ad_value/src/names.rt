@@ -1,13 +1,21 @@
+// The names of the attributes that ads of jobs and slots have, each spelled once. Names are equal
+// without ASCII case.
+
 ghost use Rattle.std.specs.Prelude.{◌≡◌};
 ghost use Rattle.std.specs.List.{list_any};
 ghost use Rattle.ad_value.specs.Names.{same_name};
-ghost use Rattle.ad_names.specs.Groups.{pool_names, run_names};
+ghost use Rattle.ad_value.specs.Groups.{pool_names, run_names};
 
-use crate::job::JOB_STATUS;
-use crate::pool::{
+pub mod job;
+pub mod matching;
+pub mod pool;
+pub mod slot;
+
+use crate::names::job::JOB_STATUS;
+use crate::names::pool::{
     EXIT_BY_SIGNAL, EXIT_CODE, EXIT_SIGNAL, HOLD_REASON, LEASE_UNTIL, RUN_CLAIM, RUN_NUMBER,
 };
-use ad_value::same_name;
+use crate::name::same_name;
 
 /// Whether a job has the attribute only while it runs, without memory. Computes in O(1).
 pub fn is_run_name(name: &str) -> bool
