@@ -1,2 +1,4 @@
+pub mod Digests
 pub mod Requests
 pub mod Rows
+pub mod Submitted

@@ -4,7 +4,7 @@ use Rattle.std.specs.Option.{option_map_or}
 use Rattle.std.specs.HashMap.{HashMap, get}
 use Rattle.ad_tree.specs.Tree.{Tree}
 use Rattle.ad_tree.specs.Ad.{Attributes}
-use Rattle.ad_digest.specs.Digests.{attribute_digest}
+use Rattle.ad_rows.specs.Digests.{attribute_digest}
 
 abbrev pub digest_in : List ℕ × Tree → ℕ
 digest_in a = attribute_digest a.0 a.1

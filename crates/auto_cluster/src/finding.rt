@@ -5,7 +5,7 @@ ghost use Rattle.std.specs.List.{All};
 ghost use Rattle.std.specs.Option.{option_map_or};
 ghost use Rattle.auto_cluster.specs.Finding.{digest_in, part_digest, places_under};
 
-use ad_digest::attribute_digest;
+use ad_rows::attribute_digest;
 use ad_tree::Ad;
 use ad_value::Memory;
 use std::alloc::Global;

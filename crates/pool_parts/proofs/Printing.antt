@@ -29,7 +29,7 @@ use Rattle.claim_id.specs.declared.numbers.JobId.{JobId}
 use Rattle.claim_id.specs.Texts.{IsClaim, IsJob, claim_text, secret_text}
 use Rattle.claim_id.proofs.Pieces.{claim_text-pieces}
 use Rattle.claim_id.proofs.Secrets.{digits-secret}
-use Rattle.job_ads.proofs.Readable.{readable_integer}
+use Rattle.ad_rows.proofs.Readable.{readable_integer}
 use Rattle.queue_tx.specs.declared.names.TheConstants.{NEXT_CLUSTER_NUM, NEXT_RUN_NUM}
 use Rattle.queue_tx.specs.Operations.{Operation}
 use Rattle.queue_tx.specs.Printable.{IsPrintable, IsPrintableName, IsPrintableOp, IsPrintableTree, IsWord}

@@ -7,7 +7,7 @@ use Rattle.ad_tree.specs.Tree.{Tree}
 use Rattle.ad_tree.specs.Ad.{Attributes, lookup, with_attribute}
 use Rattle.ad_tree.proofs.AdLemmas.{lookup-before, with_attribute-new}
 use Rattle.ad_parse.specs.AdText.{is_full_for}
-use Rattle.job_ads.specs.Submitted.{AreReadable, AreSubmitted}
+use Rattle.ad_rows.specs.Submitted.{AreReadable, AreSubmitted}
 use Rattle.pool_parts.specs.Submissions.{ad_ops, attribute_op, header_ops, job_numbered, jobs_ops, new_ad_op, next_cluster_op, submission_ops}
 use Rattle.claim_id.specs.Texts.{IsJob}
 use Rattle.queue_tx.specs.declared.error.ApplyError.TheVariants.{Full}

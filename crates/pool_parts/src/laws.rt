@@ -2,7 +2,7 @@
 
 ghost use Rattle.std.specs.Prelude.{◌≡◌, ℕ, ◌<◌, ◌≤◌, ◌^◌, List, Ok, is_some, length};
 ghost use Rattle.ad_tree.specs.Ad.{Attributes};
-ghost use Rattle.job_ads.specs.Submitted.{AreSubmitted};
+ghost use Rattle.ad_rows.specs.Submitted.{AreSubmitted};
 ghost use Rattle.pool_parts.specs.Loggable.{AreAds, AreLoggableJobs, BringsPrintableKeys, CanBeLogged, IsLoggablePlan, IsLoggableQueue, IsNewCluster};
 ghost use Rattle.pool_parts.specs.Submissions.{submission_ops};
 ghost use Rattle.queue_tx.specs.declared.key.Key.TheVariants.{Header};

@@ -13,8 +13,8 @@ use Rattle.ad_tree.specs.Tree.{Tree, literal}
 use Rattle.ad_tree.specs.Ad.{Attributes, lookup, without, AreDistinct}
 use Rattle.ad_tree.proofs.AdLemmas.{AreDistinct-without}
 use Rattle.ad_tree.specs.NameLaws.{same_name_equivalence}
-use Rattle.ad_digest.specs.Digests.{attribute_digest}
-use Rattle.ad_digest.proofs.Feeding.{same_have_one_digest}
+use Rattle.ad_rows.specs.Digests.{attribute_digest}
+use Rattle.ad_rows.proofs.Feeding.{same_have_one_digest}
 use Rattle.queue_tx.specs.Requests.{is_asked, SameRequest}
 use Rattle.queue_tx.specs.RequestDigests.{asked_digest, request_digest}
 use Rattle.queue_tx.specs.Laws.{SameRequestsHaveOneDigest}

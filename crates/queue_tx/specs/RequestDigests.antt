@@ -3,7 +3,7 @@
 use Rattle.std.specs.Prelude.{ℕ, ◌%◌, ◌^◌, List, sum_by, if◌then◌else◌}
 use Rattle.ad_tree.specs.Tree.{Tree}
 use Rattle.ad_tree.specs.Ad.{Attributes}
-use Rattle.ad_digest.specs.Digests.{attribute_digest}
+use Rattle.ad_rows.specs.Digests.{attribute_digest}
 use Rattle.queue_tx.specs.Requests.{is_asked}
 
 abbrev pub asked_digest : List ℕ × Tree → ℕ

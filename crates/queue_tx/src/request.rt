@@ -5,7 +5,7 @@ ghost use Rattle.ad_tree.specs.Ad.{lookup, AreDistinct};
 ghost use Rattle.queue_tx.specs.RequestDigests.{asked_digest, request_digest};
 ghost use Rattle.queue_tx.specs.Requests.{is_asked, AgreesAt, AsksWithin, SameRequest};
 
-use ad_digest::attribute_digest;
+use ad_rows::attribute_digest;
 use ad_value::names::is_run_name;
 use ad_value::names::job::{
     ARGS, ARGUMENTS, CLUSTER_ID, CMD, ERR, IN, IWD, JOB_PRIO, JOB_STATUS, OUT, PROC_ID, Q_DATE,

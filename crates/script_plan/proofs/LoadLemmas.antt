@@ -10,9 +10,9 @@ use Rattle.ad_token.specs.Canonical.{is_line}
 use Rattle.ad_token.specs.Names.{is_name, word_of}
 use Rattle.ad_parse.specs.ValueText.{HasReadableLiteral}
 use Rattle.ad_rows.specs.Rows.{integer_literal, text_literal}
-use Rattle.job_ads.specs.Submitted.{IsReadable, IsSubmitted, AreSubmitted}
-use Rattle.job_ads.proofs.Lists.{submitted_more, submitted_last}
-use Rattle.job_ads.proofs.Readable.{readable_value, value_within, readable_integer, readable_request}
+use Rattle.ad_rows.specs.Submitted.{IsReadable, IsSubmitted, AreSubmitted}
+use Rattle.ad_rows.proofs.Lists.{submitted_more, submitted_last}
+use Rattle.ad_rows.proofs.Readable.{readable_value, value_within, readable_integer, readable_request}
 use Rattle.script_plan.specs.Loads.{load_ads, load_ad, job_of_load, number_after, next_number, memory_of}
 use Rattle.pool_outer.specs.declared.clock.TheConstants.{LAST_READING}
 

@@ -3,7 +3,7 @@
 ghost use Rattle.std.specs.Prelude.{◌≡◌, ◌↔◌, ◌⊎◌, ◌<◌, ◌≤◌, ◌^◌, ℕ, List, length, Some, slice_get};
 ghost use Rattle.ad_parse.specs.ValueText.{HasReadableLiteral};
 ghost use Rattle.ad_value.specs.Content.{text};
-ghost use Rattle.job_ads.specs.Submitted.{AreSubmitted};
+ghost use Rattle.ad_rows.specs.Submitted.{AreSubmitted};
 ghost use Rattle.line_text.specs.declared.logical.Line.{Line};
 ghost use Rattle.line_text.specs.Lines.{logical_lines};
 ghost use Rattle.pool_outer.specs.declared.clock.TheConstants.{LAST_READING};

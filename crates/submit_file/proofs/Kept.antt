@@ -16,8 +16,8 @@ use Rattle.ad_parse.specs.ValueText.{IsShortInteger}
 use Rattle.ad_parse.proofs.Reread.{again}
 use Rattle.ad_parse.proofs.Texts.{IsReading, is_reading}
 use Rattle.ad_rows.specs.Requests.{with_enough}
-use Rattle.job_ads.specs.Submitted.{IsReadable}
-use Rattle.job_ads.proofs.Readable.{readable_value, readable_integer, readable_request}
+use Rattle.ad_rows.specs.Submitted.{IsReadable}
+use Rattle.ad_rows.proofs.Readable.{readable_value, readable_integer, readable_request}
 use Rattle.submit_lines.specs.declared.amount.Amount.{Amount}
 use Rattle.submit_lines.specs.declared.amount.Amount.TheVariants as amount
 use Rattle.submit_lines.specs.declared.amount.AmountUnit.{AmountUnit}

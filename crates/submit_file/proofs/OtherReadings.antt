@@ -11,7 +11,7 @@ use Rattle.ad_value.specs.declared.names.job.TheConstants.{Q_DATE, JOB_STATUS, J
 use Rattle.ad_tree.specs.Ad.{Attributes, lookup, with_attribute}
 use Rattle.ad_tree.specs.Tree.{Tree}
 use Rattle.ad_parse.specs.AdText.{is_full_for}
-use Rattle.job_ads.specs.Submitted.{own_attributes}
+use Rattle.ad_rows.specs.Submitted.{own_attributes}
 use Rattle.line_text.specs.declared.logical.Line.{Line}
 use Rattle.line_text.specs.Macros.{Macros}
 use Rattle.submit_lines.specs.declared.queue.Queue.{Queue}

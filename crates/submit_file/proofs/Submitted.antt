@@ -13,9 +13,9 @@ use Rattle.ad_tree.specs.Ad.{Attributes, lookup, with_attribute}
 use Rattle.ad_tree.specs.Tree.{Tree}
 use Rattle.ad_parse.specs.AdText.{is_full_for}
 use Rattle.ad_parse.specs.ValueText.{HasReadableLiteral}
-use Rattle.job_ads.specs.Submitted.{IsReadable, AreReadable, IsSubmitted, AreSubmitted, own_attributes}
-use Rattle.job_ads.proofs.Lists.{submitted_more}
-use Rattle.job_ads.proofs.Readable.{readable_value, readable_integer}
+use Rattle.ad_rows.specs.Submitted.{IsReadable, AreReadable, IsSubmitted, AreSubmitted, own_attributes}
+use Rattle.ad_rows.proofs.Lists.{submitted_more}
+use Rattle.ad_rows.proofs.Readable.{readable_value, readable_integer}
 use Rattle.line_text.specs.declared.logical.Line.{Line}
 use Rattle.line_text.specs.Macros.{Macros}
 use Rattle.submit_lines.specs.declared.queue.Queue.{Queue}

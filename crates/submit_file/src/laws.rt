@@ -5,7 +5,7 @@ ghost use Rattle.ad_value.specs.Content.{text};
 ghost use Rattle.ad_tree.specs.Ad.{Attributes};
 ghost use Rattle.ad_token.specs.Names.{is_name};
 ghost use Rattle.ad_parse.specs.ValueText.{HasReadableLiteral};
-ghost use Rattle.job_ads.specs.Submitted.{AreSubmitted};
+ghost use Rattle.ad_rows.specs.Submitted.{AreSubmitted};
 ghost use Rattle.submit_file.specs.OneJob.{Common};
 ghost use Rattle.submit_file.specs.OtherReadings.{at_reading, HaveOneResult};
 ghost use Rattle.submit_file.specs.SubmittedJobs.{AdsResult, SubmittedJobs};

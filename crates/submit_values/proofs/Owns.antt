@@ -7,7 +7,7 @@ use Rattle.std.proofs.lemmas.List.Sums.{count_by_more_yes, count_by_more_no}
 use Rattle.ad_value.specs.Content.{undefined}
 use Rattle.ad_tree.specs.Tree.{Tree, literal}
 use Rattle.ad_tree.specs.Ad.{Attributes}
-use Rattle.job_ads.specs.Submitted.{is_own, own_attributes}
+use Rattle.ad_rows.specs.Submitted.{is_own, own_attributes}
 use Rattle.submit_values.specs.JobAds.{own_at}
 
 none : List ℕ × Tree

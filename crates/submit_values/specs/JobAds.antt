@@ -4,8 +4,8 @@ use Rattle.std.specs.Option.{option_map_or}
 use Rattle.ad_tree.specs.Tree.{Tree}
 use Rattle.ad_tree.specs.Ad.{Attributes, with_attribute}
 use Rattle.ad_parse.specs.AdText.{is_full_for}
-use Rattle.job_ads.specs.declared.TheConstants.{MAX_OWN_ATTRIBUTES}
-use Rattle.job_ads.specs.Submitted.{is_own, own_attributes}
+use Rattle.ad_rows.specs.declared.TheConstants.{MAX_OWN_ATTRIBUTES}
+use Rattle.ad_rows.specs.Submitted.{is_own, own_attributes}
 
 -- 1 where the attribute at a place is a job's own, else 0
 abbrev pub own_at : Attributes → ℕ → ℕ

@@ -1,12 +1,12 @@
 ghost use Rattle.std.specs.Prelude.{◌≡◌, [], OnOk, Some};
 ghost use Rattle.ad_tree.specs.Tree.{tree};
-ghost use Rattle.job_ads.specs.Submitted.{own_attributes};
+ghost use Rattle.ad_rows.specs.Submitted.{own_attributes};
 ghost use Rattle.submit_values.specs.JobAds.{own_at, added, finished};
 
+use ad_rows::MAX_OWN_ATTRIBUTES;
 use ad_value::names::is_pool_name;
 use ad_tree::{Ad, Expr, SetError};
 use ad_value::Memory;
-use job_ads::MAX_OWN_ATTRIBUTES;
 use std::alloc::Global;
 
 /// The ad of a job that is being made, as long as there is room for its attributes.

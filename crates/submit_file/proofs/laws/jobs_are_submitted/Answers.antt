@@ -1,5 +1,5 @@
 use Rattle.submit_file.proofs.Submitted.{all_submitted}
-use Rattle.job_ads.proofs.Names.{name_readable}
+use Rattle.ad_rows.proofs.Names.{name_readable}
 use Rattle.submit_file.proofs.laws.jobs_are_submitted.Goals as goal
 
 pub returns-clause-readable : goal.returns-clause-readable

@@ -1,6 +1,6 @@
 -- The own attributes among those that were looked at.
 use Rattle.std.proofs.Common.{◌≡◌, ◌≤◌, take}
-use Rattle.job_ads.specs.Submitted.{own_attributes}
+use Rattle.ad_rows.specs.Submitted.{own_attributes}
 use Rattle.submit_values.proofs.job_ad.own_attributes.Given as goal
 
 abbrev pub invariant-loop-place : goal.invariant-loop-place

@@ -1,8 +1,0 @@
-//! What holds of all digests.
-
-ghost use Rattle.ad_digest.specs.Digests.{SameHaveOneDigest};
-
-/// The same name, without case, with an equal expression has the same digest.
-pub fn same_attributes_have_one_digest()
-    ensures { SameHaveOneDigest }
-{}

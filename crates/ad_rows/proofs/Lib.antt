@@ -1,0 +1,4 @@
+pub mod Feeding
+pub mod Lists
+pub mod Names
+pub mod Readable
