@@ -1,1 +1,3 @@
+pub mod SlotTable
+pub mod States
 pub mod Texts

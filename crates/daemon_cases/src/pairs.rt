@@ -1,6 +1,6 @@
 use cases::{Case, CaseError};
+use claim_id::next;
 use daemon_texts::{cue_of, pair_of, write_pair};
-use slot_state::next;
 
 /// Where a cue leads from a state and activity.
 pub(crate) fn answer_next(case: Case<'_>, out: &mut String) -> Result<(), CaseError> {

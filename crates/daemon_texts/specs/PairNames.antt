@@ -1,9 +1,9 @@
 -- What the states of a slot, and the cues, are called in cases.
 use Rattle.std.specs.Prelude.{ℕ, List, codes}
-use Rattle.slot_state.specs.declared.pair.Cue.{Cue}
-use Rattle.slot_state.specs.declared.pair.Cue.TheVariants as cue
-use Rattle.slot_state.specs.declared.pair.Pair.{Pair}
-use Rattle.slot_state.specs.declared.pair.Pair.TheVariants as pair
+use Rattle.claim_id.specs.declared.pair.Cue.{Cue}
+use Rattle.claim_id.specs.declared.pair.Cue.TheVariants as cue
+use Rattle.claim_id.specs.declared.pair.Pair.{Pair}
+use Rattle.claim_id.specs.declared.pair.Pair.TheVariants as pair
 
 -- a state and its activity
 abbrev pub pair_name : Pair → List ℕ

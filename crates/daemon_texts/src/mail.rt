@@ -9,9 +9,8 @@ use crate::pair::{pair_of, write_pair};
 use crate::why::{read_how, read_why, write_how, write_why};
 use ad_tree::Ad;
 use ad_value::Text;
-use claim_id::{ClaimId, ClaimNo, JobId, RunNo, SlotId};
+use claim_id::{ClaimId, ClaimNo, JobId, Pair, RunNo, SlotId};
 use pool_mail::{Mail, Match, SlotAd};
-use slot_state::Pair;
 use std::alloc::{AllocError, Global};
 use std::fmt::Write;
 

@@ -1,9 +1,9 @@
 ghost use Rattle.std.specs.Prelude.{◌≡◌, ◌≢◌, ◌++◌, MatchOption, OnOk, string_bytes};
 ghost use Rattle.daemon_texts.specs.PairNames.{pair_name, cue_name};
-ghost use Rattle.slot_state.specs.declared.pair.Cue.{Cue};
-ghost use Rattle.slot_state.specs.declared.pair.Pair.{Pair};
+ghost use Rattle.claim_id.specs.declared.pair.Cue.{Cue};
+ghost use Rattle.claim_id.specs.declared.pair.Pair.{Pair};
 
-use slot_state::{Cue, Pair};
+use claim_id::{Cue, Pair};
 use std::alloc::AllocError;
 
 /// The state and activity of a name, as `Claimed/Busy`. Computes in O(1).

@@ -23,7 +23,7 @@ use Rattle.pool_parts.specs.declared.pending.Pending.{Pending}
 use Rattle.pool_state.specs.declared.state.PoolState.{PoolState}
 use Rattle.pool_tables.specs.declared.sent.Sent.{Sent}
 use Rattle.schedd_plan.specs.declared.plan.JobPlan.{JobPlan}
-use Rattle.slot_state.specs.declared.pair.Cue.TheVariants as cue
+use Rattle.claim_id.specs.declared.pair.Cue.TheVariants as cue
 use Rattle.startd_core.specs.declared.answer.StartdAnswer.{StartdAnswer}
 use Rattle.startd_core.specs.declared.answer.StartdAnswer.TheVariants as startd
 use Rattle.startd_core.specs.Startds.{After, StartdValue, after_end, after_mail, after_reboot, after_tick, answer_of, ended_at, ended_in, ended_where, kill_answer, made_by, place_of}

@@ -9,7 +9,7 @@ use Rattle.claim_id.specs.declared.numbers.SlotId.{SlotId}
 use Rattle.pool_view.specs.AbstractPool.{IsSpentAt}
 use Rattle.pool_mail.specs.declared.end.How.{How}
 use Rattle.pool_view.specs.Numbers.{same_claim, same_run}
-use Rattle.slot_state.specs.declared.pair.Pair.{Pair}
+use Rattle.claim_id.specs.declared.pair.Pair.{Pair}
 use Rattle.startd_slot.specs.declared.held.Held.{Held}
 use Rattle.startd_slot.specs.declared.held.Running.{Running}
 use Rattle.startd_slot.specs.declared.slot.SlotState.{SlotState}

@@ -2,10 +2,9 @@ use crate::readers::{slot_of, text_of};
 use ad_tree::{Ad, Expr, SetError};
 use ad_value::{Memory, Text, Value};
 use cases::{Case, CaseError, escape};
-use claim_id::SlotId;
+use claim_id::{Pair, SlotId};
 use collector::{Collector, CollectorError};
 use pool_mail::SlotAd;
-use slot_state::Pair;
 use std::alloc::{AllocError, Global};
 use std::fmt::Write;
 

@@ -8,14 +8,13 @@ use crate::lines::{
 };
 use crate::times::{Kind, Times};
 use cases::{Case, read_cases};
-use claim_id::{ClaimId, JobId, RunNo};
+use claim_id::{ClaimId, JobId, Pair, RunNo};
 use pool_lines::SetUp;
 use pool_mail::{Mail, SlotAd};
 use pool_outer::Daemon;
 use pool_parts::{Answer, Event, Kept, Stepped};
 use pool_script::OpenPool;
 use pool_tables::StepError;
-use slot_state::Pair;
 use std::alloc::{AllocError, Global};
 use std::time::Instant;
 

@@ -6,7 +6,7 @@ use crate::fields::Fields;
 use crate::outcome::memory;
 use ad_value::{Seq, Text};
 use cases::{Case, CaseError};
-use claim_id::{SlotId, Wish};
+use claim_id::{Pair, SlotId, Wish};
 use pool_mail::{Ending, Settings, SlotAd, SlotAdList};
 use pool_outer::Daemon;
 use pool_parts::Allow;
@@ -14,7 +14,6 @@ use pool_state::Opening;
 use queue_record::{ReadLog, Reader, RecordError};
 use queue_tx::{Queue, Tx};
 use receipt_roll::Mark;
-use slot_state::Pair;
 use std::alloc::Global;
 
 /// What a pool opens with, as far as it was said. After an error it is not to be used.

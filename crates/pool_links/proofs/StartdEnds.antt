@@ -10,8 +10,8 @@ use Rattle.pool_view.specs.AbstractPool.{IsIn}
 use Rattle.pool_view.specs.declared.run.EndReport.{EndReport}
 use Rattle.pool_protocol.specs.Protocol.{Protocol}
 use Rattle.pool_protocol.specs.ProtocolMove.{ProtocolMove, MayAll, protocol_after_all}
-use Rattle.slot_state.specs.declared.pair.Cue.TheVariants as cue
-use Rattle.slot_state.specs.SlotTable.{next_of}
+use Rattle.claim_id.specs.declared.pair.Cue.TheVariants as cue
+use Rattle.claim_id.specs.SlotTable.{next_of}
 use Rattle.startd_slot.specs.declared.held.Held.{Held}
 use Rattle.startd_slot.specs.declared.held.Rival.{Rival}
 use Rattle.startd_slot.specs.declared.held.Running.{Running}

@@ -7,10 +7,10 @@ use Rattle.pool_view.specs.AbstractPool.{IsIn}
 use Rattle.pool_protocol.specs.Protocol.{Protocol}
 use Rattle.pool_protocol.specs.ProtocolMove.{ProtocolMove, MayAll, Reboot, protocol_after_all}
 use Rattle.pool_protocol.specs.SlotPart.{SlotPart, IsPart}
-use Rattle.slot_state.specs.declared.pair.Pair.{Pair}
-use Rattle.slot_state.specs.declared.pair.Pair.TheVariants.{OwnerIdle, UnclaimedIdle, MatchedIdle, ClaimedIdle, ClaimedBusy, ClaimedRetiring, PreemptingVacating, PreemptingKilling}
-use Rattle.slot_state.specs.declared.pair.Cue.TheVariants as cue
-use Rattle.slot_state.specs.SlotTable.{next_of}
+use Rattle.claim_id.specs.declared.pair.Pair.{Pair}
+use Rattle.claim_id.specs.declared.pair.Pair.TheVariants.{OwnerIdle, UnclaimedIdle, MatchedIdle, ClaimedIdle, ClaimedBusy, ClaimedRetiring, PreemptingVacating, PreemptingKilling}
+use Rattle.claim_id.specs.declared.pair.Cue.TheVariants as cue
+use Rattle.claim_id.specs.SlotTable.{next_of}
 use Rattle.startd_slot.specs.declared.held.Held.{Held}
 use Rattle.startd_slot.specs.declared.held.Running.{Running}
 use Rattle.startd_slot.specs.declared.slot.Slot.{Slot}

@@ -2,8 +2,7 @@ ghost use Rattle.std.specs.Prelude.{◌≡◌, ◌↔◌, IfOk, IsTrue};
 
 use ad_tree::Ad;
 use ad_value::{Copied, Memory, Seq, Text};
-use claim_id::{ClaimId, SlotId};
-use slot_state::Pair;
+use claim_id::{ClaimId, Pair, SlotId};
 use std::alloc::Global;
 
 /// How a slot stands, as its startd tells the collector.

@@ -10,7 +10,7 @@ use Rattle.pool_mail.specs.declared.end.How.{How}
 use Rattle.pool_mail.specs.declared.mail.Mail.{Mail}
 use Rattle.pool_mail.specs.declared.mail.Mail.TheVariants.{Ended, Granted}
 use Rattle.pool_view.specs.AbstractPool.{IsIn}
-use Rattle.slot_state.specs.declared.pair.Cue.TheVariants.{Rest}
+use Rattle.claim_id.specs.declared.pair.Cue.TheVariants.{Rest}
 use Rattle.startd_slot.specs.declared.held.Held.{Held}
 use Rattle.startd_slot.specs.declared.held.Rival.{Rival}
 use Rattle.startd_slot.specs.declared.held.Running.{Running}

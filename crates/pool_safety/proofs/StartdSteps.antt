@@ -21,8 +21,8 @@ use Rattle.pool_view.specs.AbstractPool.{IsIn, Marks}
 use Rattle.pool_view.specs.AbstractStep.{AbstractStep, Extend, Mark, Start, Stop}
 use Rattle.pool_view.specs.declared.run.Run.{Run}
 use Rattle.pool_view.specs.Numbers.{same_run}
-use Rattle.slot_state.specs.declared.pair.Pair.{Pair}
-use Rattle.slot_state.specs.declared.pair.Pair.TheVariants.{OwnerIdle, UnclaimedIdle, MatchedIdle, ClaimedIdle, ClaimedBusy, ClaimedRetiring, PreemptingVacating, PreemptingKilling}
+use Rattle.claim_id.specs.declared.pair.Pair.{Pair}
+use Rattle.claim_id.specs.declared.pair.Pair.TheVariants.{OwnerIdle, UnclaimedIdle, MatchedIdle, ClaimedIdle, ClaimedBusy, ClaimedRetiring, PreemptingVacating, PreemptingKilling}
 use Rattle.startd_slot.proofs.SameNumbers.{same_run-true}
 use Rattle.startd_slot.specs.declared.held.Held.{Held}
 use Rattle.startd_slot.specs.declared.held.Rival.{Rival}

@@ -10,7 +10,7 @@ use Rattle.pool_mail.specs.declared.end.How.{How}
 use Rattle.pool_mail.specs.declared.mail.Mail.{Mail}
 use Rattle.pool_mail.specs.declared.mail.Mail.TheVariants.{Update, Matched, Ask, Granted, Denied, Activate, Alive, Seen, Stop, Release, Gone, Ended, Remove, Hold, Resume}
 use Rattle.pool_outer.specs.declared.spawner.Launch.{Launch}
-use Rattle.slot_state.specs.declared.pair.Cue.TheVariants as cue
+use Rattle.claim_id.specs.declared.pair.Cue.TheVariants as cue
 use Rattle.startd_slot.specs.declared.held.Rival.{Rival}
 use Rattle.startd_slot.specs.declared.reaction.Task.{Task}
 use Rattle.startd_slot.specs.declared.reaction.Task.TheVariants as task

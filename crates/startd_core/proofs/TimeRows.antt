@@ -8,12 +8,12 @@ use Rattle.pool_protocol.specs.ProtocolMove.{MayAll, Reboot, StopRun}
 use Rattle.pool_protocol.specs.SlotPart.{IsPart, SlotPart, own_part_after, part_after, part_after_all}
 use Rattle.pool_view.specs.Safe.{Safe}
 use Rattle.pool_view.proofs.Sameness.{same_slot-same}
-use Rattle.slot_state.specs.declared.pair.Cue.{Cue}
-use Rattle.slot_state.specs.declared.pair.Cue.TheVariants as cue
-use Rattle.slot_state.specs.declared.pair.Pair.{Pair}
-use Rattle.slot_state.specs.declared.pair.Pair.TheVariants.{OwnerIdle, UnclaimedIdle, MatchedIdle, ClaimedIdle, ClaimedBusy, ClaimedRetiring, PreemptingVacating, PreemptingKilling}
-use Rattle.slot_state.specs.SlotTable.{next_of}
-use Rattle.slot_state.specs.States.{has_claim, has_run}
+use Rattle.claim_id.specs.declared.pair.Cue.{Cue}
+use Rattle.claim_id.specs.declared.pair.Cue.TheVariants as cue
+use Rattle.claim_id.specs.declared.pair.Pair.{Pair}
+use Rattle.claim_id.specs.declared.pair.Pair.TheVariants.{OwnerIdle, UnclaimedIdle, MatchedIdle, ClaimedIdle, ClaimedBusy, ClaimedRetiring, PreemptingVacating, PreemptingKilling}
+use Rattle.claim_id.specs.SlotTable.{next_of}
+use Rattle.claim_id.specs.States.{has_claim, has_run}
 use Rattle.startd_slot.specs.declared.held.Running.{Running}
 use Rattle.startd_slot.specs.declared.slot.Slot.{Slot}
 use Rattle.startd_slot.specs.declared.slot.SlotState.{SlotState}

@@ -7,9 +7,8 @@ ghost use Rattle.startd_core.specs.Startds.{told, told_where_changed, made_by, a
 use crate::answer::{Permit, RunList, StartdAnswer};
 use crate::offers::{Machine, settle_offer, update_of};
 use ad_value::Memory;
-use claim_id::ClaimId;
+use claim_id::{ClaimId, Pair};
 use pool_mail::MailList;
-use slot_state::Pair;
 use startd_slot::{Reaction, Slot, SlotState, Task};
 use std::alloc::Global;
 

@@ -10,8 +10,8 @@ ghost use Rattle.startd_core.specs.declared.tick.TickRow.TheVariants as rows;
 use ad_eval::eval;
 use ad_value::names::slot::START;
 use ad_value::{Memory, Value};
+use claim_id::{Cue, Pair};
 use pool_mail::Settings;
-use slot_state::{Cue, Pair};
 use startd_slot::{Slot, SlotState};
 use std::alloc::Global;
 

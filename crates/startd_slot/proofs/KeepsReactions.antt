@@ -12,9 +12,9 @@ use Rattle.pool_mail.specs.Ads.{owner_of}
 use Rattle.ad_eval.specs.Match.{rank_of}
 use Rattle.pool_view.specs.Numbers.{same_claim}
 use Rattle.pool_outer.specs.declared.spawner.Launch.{Launch}
-use Rattle.slot_state.specs.declared.pair.Pair.{Pair}
-use Rattle.slot_state.specs.declared.pair.Pair.TheVariants.{OwnerIdle, UnclaimedIdle, MatchedIdle, ClaimedIdle, ClaimedBusy, ClaimedRetiring, PreemptingVacating, PreemptingKilling}
-use Rattle.slot_state.specs.declared.pair.Cue.TheVariants as cue
+use Rattle.claim_id.specs.declared.pair.Pair.{Pair}
+use Rattle.claim_id.specs.declared.pair.Pair.TheVariants.{OwnerIdle, UnclaimedIdle, MatchedIdle, ClaimedIdle, ClaimedBusy, ClaimedRetiring, PreemptingVacating, PreemptingKilling}
+use Rattle.claim_id.specs.declared.pair.Cue.TheVariants as cue
 use Rattle.startd_slot.specs.declared.ask.AskRow.{AskRow}
 use Rattle.startd_slot.specs.declared.ask.AskRow.TheVariants as asked_row
 use Rattle.startd_slot.specs.declared.ask.Asked.{Asked}

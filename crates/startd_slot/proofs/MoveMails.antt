@@ -16,8 +16,8 @@ use Rattle.pool_protocol.specs.Protocol.{Protocol}
 use Rattle.pool_protocol.specs.ProtocolMove.{MayAll}
 use Rattle.pool_protocol.specs.SlotPart.{IsPart, part_after_all}
 use Rattle.pool_view.specs.Safe.{Safe}
-use Rattle.slot_state.specs.declared.pair.Cue.TheVariants as cue
-use Rattle.slot_state.specs.SlotTable.{next_of}
+use Rattle.claim_id.specs.declared.pair.Cue.TheVariants as cue
+use Rattle.claim_id.specs.SlotTable.{next_of}
 use Rattle.startd_slot.specs.declared.ask.Asked.{Asked}
 use Rattle.startd_slot.specs.declared.held.Held.{Held}
 use Rattle.startd_slot.specs.declared.held.Running.{Running}

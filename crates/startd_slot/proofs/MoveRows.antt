@@ -14,11 +14,11 @@ use Rattle.pool_protocol.specs.SlotPart.{SlotPart, is_of_slot, own_part_after, p
 use Rattle.pool_view.specs.declared.run.Run.{Run}
 use Rattle.pool_view.specs.Numbers.{same_slot}
 use Rattle.pool_view.proofs.Sameness.{same_slot-same}
-use Rattle.slot_state.specs.declared.pair.Cue.TheVariants as cue
-use Rattle.slot_state.specs.declared.pair.Pair.{Pair}
-use Rattle.slot_state.specs.declared.pair.Pair.TheVariants.{ClaimedIdle}
-use Rattle.slot_state.specs.SlotTable.{next_of}
-use Rattle.slot_state.specs.States.{has_run}
+use Rattle.claim_id.specs.declared.pair.Cue.TheVariants as cue
+use Rattle.claim_id.specs.declared.pair.Pair.{Pair}
+use Rattle.claim_id.specs.declared.pair.Pair.TheVariants.{ClaimedIdle}
+use Rattle.claim_id.specs.SlotTable.{next_of}
+use Rattle.claim_id.specs.States.{has_run}
 use Rattle.startd_slot.specs.declared.ask.AskRow.{AskRow}
 use Rattle.startd_slot.specs.declared.ask.AskRow.TheVariants as asked_row
 use Rattle.startd_slot.specs.declared.ask.Asked.{Asked}

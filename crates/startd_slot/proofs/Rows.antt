@@ -6,8 +6,8 @@ use Rattle.claim_id.specs.declared.numbers.ClaimNo.{ClaimNo}
 use Rattle.claim_id.specs.declared.numbers.RunNo.{RunNo}
 use Rattle.pool_mail.specs.declared.end.How.{How}
 use Rattle.pool_view.specs.Numbers.{same_run}
-use Rattle.slot_state.specs.declared.pair.Pair.{Pair}
-use Rattle.slot_state.specs.declared.pair.Pair.TheVariants.{OwnerIdle, UnclaimedIdle, MatchedIdle, ClaimedIdle, ClaimedBusy, ClaimedRetiring, PreemptingVacating, PreemptingKilling}
+use Rattle.claim_id.specs.declared.pair.Pair.{Pair}
+use Rattle.claim_id.specs.declared.pair.Pair.TheVariants.{OwnerIdle, UnclaimedIdle, MatchedIdle, ClaimedIdle, ClaimedBusy, ClaimedRetiring, PreemptingVacating, PreemptingKilling}
 use Rattle.startd_slot.specs.declared.ask.AskRow.{AskRow}
 use Rattle.startd_slot.specs.declared.ask.AskRow.TheVariants as asked_row
 use Rattle.startd_slot.specs.declared.ask.Asked.{Asked}

@@ -9,7 +9,7 @@ use Rattle.pool_mail.specs.declared.mail.Mail.TheVariants.{Denied, Gone, Seen}
 use Rattle.pool_mail.specs.declared.why.Why.{Why}
 use Rattle.pool_mail.specs.declared.why.Why.TheVariants as why
 use Rattle.pool_outer.specs.declared.spawner.Launch.{Launch}
-use Rattle.slot_state.specs.declared.pair.Cue.TheVariants.{Begin}
+use Rattle.claim_id.specs.declared.pair.Cue.TheVariants.{Begin}
 use Rattle.startd_slot.specs.declared.held.Held.{Held}
 use Rattle.startd_slot.specs.declared.held.Running.{Running}
 use Rattle.startd_slot.specs.declared.reaction.Reaction.{Reaction}

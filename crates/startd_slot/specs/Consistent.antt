@@ -3,9 +3,9 @@ use Rattle.std.specs.Prelude.{◌≡◌, ℕ, ◌<◌, ◌≤◌, Bool, true, fa
 use Rattle.claim_id.specs.declared.numbers.ClaimNo.{ClaimNo}
 use Rattle.claim_id.specs.declared.numbers.RunNo.{RunNo}
 use Rattle.claim_id.specs.declared.numbers.SlotId.{SlotId}
-use Rattle.slot_state.specs.declared.pair.Pair.{Pair}
-use Rattle.slot_state.specs.declared.pair.Pair.TheVariants.{OwnerIdle, UnclaimedIdle, MatchedIdle, ClaimedIdle, ClaimedBusy, ClaimedRetiring, PreemptingVacating, PreemptingKilling}
-use Rattle.slot_state.specs.States.{has_claim, has_run}
+use Rattle.claim_id.specs.declared.pair.Pair.{Pair}
+use Rattle.claim_id.specs.declared.pair.Pair.TheVariants.{OwnerIdle, UnclaimedIdle, MatchedIdle, ClaimedIdle, ClaimedBusy, ClaimedRetiring, PreemptingVacating, PreemptingKilling}
+use Rattle.claim_id.specs.States.{has_claim, has_run}
 use Rattle.startd_slot.specs.declared.held.Held.{Held}
 use Rattle.startd_slot.specs.declared.slot.SlotState.{SlotState}
 use Rattle.startd_slot.specs.SlotStates.{running_of, is_open}

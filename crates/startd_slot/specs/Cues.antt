@@ -4,10 +4,10 @@ use Rattle.ad_eval.specs.Judgement.{Judgement}
 use Rattle.ad_eval.specs.Match.{rank_of}
 use Rattle.pool_mail.specs.declared.mail.Mail.{Mail}
 use Rattle.pool_mail.specs.declared.mail.Mail.TheVariants.{Matched, Ask, Activate, Release}
-use Rattle.slot_state.specs.declared.pair.Cue.{Cue}
-use Rattle.slot_state.specs.declared.pair.Cue.TheVariants as cue
-use Rattle.slot_state.specs.declared.pair.Pair.{Pair}
-use Rattle.slot_state.specs.SlotTable.{next_of}
+use Rattle.claim_id.specs.declared.pair.Cue.{Cue}
+use Rattle.claim_id.specs.declared.pair.Cue.TheVariants as cue
+use Rattle.claim_id.specs.declared.pair.Pair.{Pair}
+use Rattle.claim_id.specs.SlotTable.{next_of}
 use Rattle.startd_slot.specs.declared.ask.AskRow.{AskRow}
 use Rattle.startd_slot.specs.declared.ask.AskRow.TheVariants as asked
 use Rattle.startd_slot.specs.declared.ask.ReleaseRow.{ReleaseRow}

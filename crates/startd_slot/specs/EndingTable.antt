@@ -7,7 +7,7 @@ use Rattle.pool_mail.specs.declared.end.How.{How}
 use Rattle.pool_mail.specs.declared.end.How.TheVariants as how
 use Rattle.pool_mail.specs.declared.mail.Mail.{Mail}
 use Rattle.pool_mail.specs.declared.mail.Mail.TheVariants.{Ended, Granted}
-use Rattle.slot_state.specs.declared.pair.Cue.TheVariants.{Rest, Finish, Handover}
+use Rattle.claim_id.specs.declared.pair.Cue.TheVariants.{Rest, Finish, Handover}
 use Rattle.startd_slot.specs.declared.held.Mark.{Mark}
 use Rattle.startd_slot.specs.declared.held.Mark.TheVariants as mark
 use Rattle.startd_slot.specs.declared.held.Rival.{Rival}

@@ -1,9 +1,9 @@
 -- What becomes of a claim that is given up.
 use Rattle.std.specs.Prelude.{ℕ, Bool, true, false, Option, Some, None, if◌then◌else◌}
 use Rattle.claim_id.specs.declared.numbers.ClaimNo.{ClaimNo}
-use Rattle.slot_state.specs.declared.pair.Cue.TheVariants.{Finish, Retire}
-use Rattle.slot_state.specs.declared.pair.Pair.{Pair}
-use Rattle.slot_state.specs.declared.pair.Pair.TheVariants.{ClaimedBusy}
+use Rattle.claim_id.specs.declared.pair.Cue.TheVariants.{Finish, Retire}
+use Rattle.claim_id.specs.declared.pair.Pair.{Pair}
+use Rattle.claim_id.specs.declared.pair.Pair.TheVariants.{ClaimedBusy}
 use Rattle.startd_slot.specs.declared.ask.ReleaseRow.{ReleaseRow}
 use Rattle.startd_slot.specs.declared.ask.ReleaseRow.TheVariants as row
 use Rattle.startd_slot.specs.declared.held.Running.{Running}

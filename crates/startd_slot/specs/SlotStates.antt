@@ -5,10 +5,10 @@ use Rattle.claim_id.specs.declared.numbers.ClaimNo.{ClaimNo}
 use Rattle.claim_id.specs.declared.numbers.RunNo.{RunNo}
 use Rattle.pool_mail.specs.declared.end.How.{How}
 use Rattle.pool_view.specs.Numbers.{same_claim, same_run}
-use Rattle.slot_state.specs.declared.pair.Cue.{Cue}
-use Rattle.slot_state.specs.declared.pair.Pair.{Pair}
-use Rattle.slot_state.specs.declared.pair.Pair.TheVariants.{OwnerIdle, UnclaimedIdle, MatchedIdle, ClaimedIdle, ClaimedBusy, ClaimedRetiring, PreemptingVacating, PreemptingKilling}
-use Rattle.slot_state.specs.SlotTable.{next_of}
+use Rattle.claim_id.specs.declared.pair.Cue.{Cue}
+use Rattle.claim_id.specs.declared.pair.Pair.{Pair}
+use Rattle.claim_id.specs.declared.pair.Pair.TheVariants.{OwnerIdle, UnclaimedIdle, MatchedIdle, ClaimedIdle, ClaimedBusy, ClaimedRetiring, PreemptingVacating, PreemptingKilling}
+use Rattle.claim_id.specs.SlotTable.{next_of}
 use Rattle.startd_slot.specs.declared.held.Held.{Held}
 use Rattle.startd_slot.specs.declared.held.Mark.TheVariants as mark
 use Rattle.startd_slot.specs.declared.held.Rival.{Rival}

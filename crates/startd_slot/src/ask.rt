@@ -13,9 +13,8 @@ use crate::slot::{Slot, SlotState, is_busy};
 use ad_eval::rank;
 use ad_tree::Ad;
 use ad_value::{Memory, Text};
-use claim_id::{ClaimId, ClaimNo, JobId};
+use claim_id::{ClaimId, ClaimNo, Cue, JobId, Pair};
 use pool_mail::{Mail, Why, owner_of};
-use slot_state::{Cue, Pair};
 use std::alloc::Global;
 
 /// What an Ask says, but for its ad.

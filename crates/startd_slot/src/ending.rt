@@ -9,8 +9,8 @@ use crate::held::{Mark, Rival, Running, copied_rival};
 use crate::reaction::{Reaction, says, says_both};
 use crate::slot::{SlotState, is_busy};
 use ad_value::{Copied, Memory};
+use claim_id::Cue;
 use pool_mail::{End, Ending, How, Mail};
-use slot_state::Cue;
 use std::alloc::Global;
 
 /// How a run ended whose program ended so.

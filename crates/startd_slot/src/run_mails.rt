@@ -14,10 +14,9 @@ use crate::slot::SlotState;
 use ad_eval::Judged;
 use ad_tree::Ad;
 use ad_value::Memory;
-use claim_id::{JobId, RunNo};
+use claim_id::{Cue, JobId, RunNo};
 use job_launch::launch_of;
 use pool_mail::{How, Mail, Why};
-use slot_state::Cue;
 use std::alloc::Global;
 
 /// What an Activate says, but for its ad.

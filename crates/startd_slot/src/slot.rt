@@ -7,9 +7,8 @@ ghost use Rattle.startd_slot.specs.RunTable.{until_of};
 use crate::held::{Held, Mark, Rival, Running, copied_held, copied_rival};
 use ad_tree::Ad;
 use ad_value::{Copied, Memory, Text};
-use claim_id::{ClaimId, ClaimNo, RunNo, SlotId};
+use claim_id::{ClaimId, ClaimNo, Cue, Pair, RunNo, SlotId, next};
 use pool_mail::How;
-use slot_state::{Cue, Pair, next};
 use std::alloc::Global;
 
 /// A slot of the machine: what never changes, and how it stands. Its copy computes in O(bytes of

@@ -3,11 +3,11 @@ use Rattle.std.proofs.Common.{◌≡◌, true, List, Some, refl, sym, ◌∙◌,
 use Rattle.std.specs.List.{Contains, AllByRecursion}
 use Rattle.std.proofs.lemmas.List.Elements.{All-from_recursion}
 use Rattle.std.proofs.lemmas.Map.Views.{Contains-from_lookup}
-use Rattle.slot_state.specs.declared.pair.Cue.{Cue}
-use Rattle.slot_state.specs.declared.pair.Cue.TheVariants.{StartOn, StartOff, Match, Lapse, Grant, Begin, Rest, Retire, Vacate, Kill, Handover, Finish}
-use Rattle.slot_state.specs.declared.pair.Pair.{Pair}
-use Rattle.slot_state.specs.declared.pair.Pair.TheVariants.{OwnerIdle, UnclaimedIdle, MatchedIdle, ClaimedIdle, ClaimedBusy, ClaimedRetiring, PreemptingVacating, PreemptingKilling}
-use Rattle.slot_state.specs.SlotTable.{◌⇒◌, ways_from, same_cue, next_of}
+use Rattle.claim_id.specs.declared.pair.Cue.{Cue}
+use Rattle.claim_id.specs.declared.pair.Cue.TheVariants.{StartOn, StartOff, Match, Lapse, Grant, Begin, Rest, Retire, Vacate, Kill, Handover, Finish}
+use Rattle.claim_id.specs.declared.pair.Pair.{Pair}
+use Rattle.claim_id.specs.declared.pair.Pair.TheVariants.{OwnerIdle, UnclaimedIdle, MatchedIdle, ClaimedIdle, ClaimedBusy, ClaimedRetiring, PreemptingVacating, PreemptingKilling}
+use Rattle.claim_id.specs.SlotTable.{◌⇒◌, ways_from, same_cue, next_of}
 
 same_cue-same : (a b : Cue) → same_cue a b ≡ true → a ≡ b
 same_cue-same StartOn StartOn _ = refl

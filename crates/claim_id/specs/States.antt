@@ -1,8 +1,8 @@
 -- What a pair of state and activity says of a slot (HTCondor manual, "Policy Configuration for
 -- Execution Points": Machine States, Machine Activities).
 use Rattle.std.specs.Prelude.{ℕ, Bool, true, false}
-use Rattle.slot_state.specs.declared.pair.Pair.{Pair}
-use Rattle.slot_state.specs.declared.pair.Pair.TheVariants.{OwnerIdle, UnclaimedIdle, MatchedIdle, ClaimedIdle, ClaimedBusy, ClaimedRetiring, PreemptingVacating, PreemptingKilling}
+use Rattle.claim_id.specs.declared.pair.Pair.{Pair}
+use Rattle.claim_id.specs.declared.pair.Pair.TheVariants.{OwnerIdle, UnclaimedIdle, MatchedIdle, ClaimedIdle, ClaimedBusy, ClaimedRetiring, PreemptingVacating, PreemptingKilling}
 
 -- somebody has a claim on the slot: its state is Claimed or Preempting
 abbrev pub has_claim : Pair → Bool

@@ -2,10 +2,10 @@
 -- for Execution Points": Machine States, Machine Activities, State and Activity Transitions).
 use Rattle.std.specs.Prelude.{Bool, true, false, List, [], ◌∷◌, Option}
 use Rattle.std.specs.Map.{lookup}
-use Rattle.slot_state.specs.declared.pair.Cue.{Cue}
-use Rattle.slot_state.specs.declared.pair.Cue.TheVariants.{StartOn, StartOff, Match, Lapse, Grant, Begin, Rest, Retire, Vacate, Kill, Handover, Finish}
-use Rattle.slot_state.specs.declared.pair.Pair.{Pair}
-use Rattle.slot_state.specs.declared.pair.Pair.TheVariants.{OwnerIdle, UnclaimedIdle, MatchedIdle, ClaimedIdle, ClaimedBusy, ClaimedRetiring, PreemptingVacating, PreemptingKilling}
+use Rattle.claim_id.specs.declared.pair.Cue.{Cue}
+use Rattle.claim_id.specs.declared.pair.Cue.TheVariants.{StartOn, StartOff, Match, Lapse, Grant, Begin, Rest, Retire, Vacate, Kill, Handover, Finish}
+use Rattle.claim_id.specs.declared.pair.Pair.{Pair}
+use Rattle.claim_id.specs.declared.pair.Pair.TheVariants.{OwnerIdle, UnclaimedIdle, MatchedIdle, ClaimedIdle, ClaimedBusy, ClaimedRetiring, PreemptingVacating, PreemptingKilling}
 
 -- a way out of a state and activity: the cue for it, and where it leads
 infix 6 ◌⇒◌

@@ -1,5 +1,5 @@
 ghost use Rattle.std.specs.Prelude.{◌≡◌};
-ghost use Rattle.slot_state.specs.SlotTable.{next_of};
+ghost use Rattle.claim_id.specs.SlotTable.{next_of};
 
 use crate::pair::{Cue, Pair};
 

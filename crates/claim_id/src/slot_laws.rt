@@ -1,12 +1,12 @@
 //! What holds of every slot, whatever its cues.
 
 ghost use Rattle.std.specs.Prelude.{◌≡◌, ◌↔◌, ◌<◌, Contains, IsTrue, not, Some};
-ghost use Rattle.slot_state.specs.declared.pair.Cue.{Cue};
-ghost use Rattle.slot_state.specs.declared.pair.Cue.TheVariants as cue;
-ghost use Rattle.slot_state.specs.declared.pair.Pair.{Pair};
-ghost use Rattle.slot_state.specs.declared.pair.Pair.TheVariants as pair;
-ghost use Rattle.slot_state.specs.SlotTable.{◌⇒◌, next_of, ways_from};
-ghost use Rattle.slot_state.specs.States.{has_claim, has_run, urgency};
+ghost use Rattle.claim_id.specs.declared.pair.Cue.{Cue};
+ghost use Rattle.claim_id.specs.declared.pair.Cue.TheVariants as cue;
+ghost use Rattle.claim_id.specs.declared.pair.Pair.{Pair};
+ghost use Rattle.claim_id.specs.declared.pair.Pair.TheVariants as pair;
+ghost use Rattle.claim_id.specs.SlotTable.{◌⇒◌, next_of, ways_from};
+ghost use Rattle.claim_id.specs.States.{has_claim, has_run, urgency};
 
 /// A cue leads somewhere exactly where the table says so, and there.
 pub fn table_is_all()
