@@ -26,10 +26,10 @@ use Rattle.submit_lines.specs.Amounts.{digits_length, suffix_of, in_units, units
 use Rattle.submit_lines.specs.Arguments.{plain_arguments, quoted_arguments}
 use Rattle.submit_lines.specs.Numbers.{is_decimal, positive, negative}
 use Rattle.submit_lines.specs.Numbers as numbers
-use Rattle.submit_values.specs.declared.command.Command.{Command}
-use Rattle.submit_values.specs.declared.command.Command.TheVariants as command
-use Rattle.submit_values.specs.declared.error.ValueError.TheVariants as fault
-use Rattle.submit_values.specs.Values.{TreeResult, OptionResult, of_reading, tree_of_text, tree_of_canon, string_at, program_at, is_closed, quoted_at, arguments_at, whole_at, lease_of, amount_at, requirements_of, expr_at, some_of, value_at, preset_at}
+use Rattle.submit_lines.specs.declared.command.Command.{Command}
+use Rattle.submit_lines.specs.declared.command.Command.TheVariants as command
+use Rattle.submit_lines.specs.declared.error.ValueError.TheVariants as fault
+use Rattle.submit_lines.specs.Values.{TreeResult, OptionResult, of_reading, tree_of_text, tree_of_canon, string_at, program_at, is_closed, quoted_at, arguments_at, whole_at, lease_of, amount_at, requirements_of, expr_at, some_of, value_at, preset_at}
 
 abbrev pub Keeps : TreeResult → Type 0
 Keeps (Ok e) = IsReadable e

@@ -15,9 +15,9 @@ use Rattle.submit_lines.specs.Lines.{LineResult, line_of, trimmed_line, plus_lin
 use Rattle.submit_lines.specs.Names.{is_reserved, is_unsupported, macro_name, after_name, past_my}
 use Rattle.submit_file.specs.declared.setting.Setting.{Setting}
 use Rattle.submit_file.specs.Settings.{with_setting}
-use Rattle.submit_values.specs.declared.command.Command.{Command}
-use Rattle.submit_values.specs.declared.command.Command.TheVariants as submit
-use Rattle.submit_values.specs.Commands.{attribute_name}
+use Rattle.submit_lines.specs.declared.command.Command.{Command}
+use Rattle.submit_lines.specs.declared.command.Command.TheVariants as submit
+use Rattle.submit_lines.specs.Commands.{attribute_name}
 
 -- the attribute is none that a submitted ad must have as it is, or must not have
 pub record IsFree (x : List ℕ) : Type 0 where

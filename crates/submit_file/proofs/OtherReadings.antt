@@ -15,7 +15,7 @@ use Rattle.ad_rows.specs.Submitted.{own_attributes}
 use Rattle.line_text.specs.declared.logical.Line.{Line}
 use Rattle.line_text.specs.Macros.{Macros}
 use Rattle.submit_lines.specs.declared.queue.Queue.{Queue}
-use Rattle.submit_values.specs.JobAds.{added, finished}
+use Rattle.submit_lines.specs.JobAds.{added, finished}
 use Rattle.submit_file.specs.declared.error.SubmitError.{SubmitError}
 use Rattle.submit_file.specs.declared.error.SubmitError.TheVariants as error
 use Rattle.submit_file.specs.declared.file.FileSoFar.{FileSoFar}

@@ -11,9 +11,9 @@ use Rattle.std.proofs.lemmas.Cmp.{nat_list_eq_equiv}
 use Rattle.std.proofs.lemmas.List.{map-append, length-map}
 use Rattle.std.proofs.lemmas.Option.{slice_get_past}
 use Rattle.ad_value.specs.Names.{lowercase, same_name}
-use Rattle.submit_values.specs.declared.command.Command.{Command}
-use Rattle.submit_values.specs.declared.command.Command.TheVariants as command
-use Rattle.submit_values.specs.Commands.{command_name}
+use Rattle.submit_lines.specs.declared.command.Command.{Command}
+use Rattle.submit_lines.specs.declared.command.Command.TheVariants as command
+use Rattle.submit_lines.specs.Commands.{command_name}
 use Rattle.submit_file.specs.declared.setting.Setting.{Setting}
 use Rattle.submit_file.specs.Settings.{setting_of, lowercase_names}
 use Rattle.submit_file.proofs.Puts.{with_value}

@@ -20,13 +20,13 @@ use Rattle.line_text.specs.declared.logical.Line.{Line}
 use Rattle.line_text.specs.Macros.{Macros}
 use Rattle.submit_lines.specs.declared.queue.Queue.{Queue}
 use Rattle.submit_lines.specs.declared.queue.Over.{Over}
-use Rattle.submit_values.specs.declared.command.Command.{Command}
-use Rattle.submit_values.specs.declared.command.Command.TheVariants as command
-use Rattle.submit_values.specs.declared.error.ValueError.{ValueError}
-use Rattle.submit_values.specs.declared.error.ValueError.TheVariants as fault
-use Rattle.submit_values.specs.JobAds.{added}
-use Rattle.submit_values.specs.Commands.{attribute_name}
-use Rattle.submit_values.specs.Values.{value_at, preset_at, some_of, tree_of_text, string_at}
+use Rattle.submit_lines.specs.declared.command.Command.{Command}
+use Rattle.submit_lines.specs.declared.command.Command.TheVariants as command
+use Rattle.submit_lines.specs.declared.error.ValueError.{ValueError}
+use Rattle.submit_lines.specs.declared.error.ValueError.TheVariants as fault
+use Rattle.submit_lines.specs.JobAds.{added}
+use Rattle.submit_lines.specs.Commands.{attribute_name}
+use Rattle.submit_lines.specs.Values.{value_at, preset_at, some_of, tree_of_text, string_at}
 use Rattle.submit_file.specs.declared.error.SubmitError.{SubmitError}
 use Rattle.submit_file.specs.declared.error.SubmitError.TheVariants as error
 use Rattle.submit_file.specs.declared.file.FileSoFar.{FileSoFar}

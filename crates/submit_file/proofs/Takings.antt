@@ -6,9 +6,9 @@ use Rattle.ad_value.specs.declared.names.job.TheConstants.{CLUSTER_ID, PROC_ID, 
 use Rattle.ad_tree.specs.Ad.{Attributes}
 use Rattle.ad_tree.specs.declared.tree.Expr.{Expr}
 use Rattle.ad_tree.specs.Tree.{Tree, tree}
-use Rattle.submit_values.specs.declared.error.ValueError.{ValueError}
-use Rattle.submit_values.specs.declared.error.ValueError.TheVariants as value
-use Rattle.submit_values.specs.Values.{GivesValue, FailsValue, some_of}
+use Rattle.submit_lines.specs.declared.error.ValueError.{ValueError}
+use Rattle.submit_lines.specs.declared.error.ValueError.TheVariants as value
+use Rattle.submit_lines.specs.Values.{GivesValue, FailsValue, some_of}
 use Rattle.ad_value.specs.declared.memory.Memory.{Memory}
 use Rattle.submit_file.specs.declared.draft.Place.{Place}
 use Rattle.submit_file.specs.declared.error.SubmitError.{SubmitError}

@@ -4,8 +4,8 @@ use Rattle.line_text.specs.declared.error.MacroError.{MacroError}
 use Rattle.line_text.specs.declared.error.MacroError.TheVariants as macro
 use Rattle.line_text.specs.Macros.{Macros}
 use Rattle.line_text.specs.Expansion.{IsExpansion, IsRefused}
-use Rattle.submit_values.specs.declared.error.ValueError.{ValueError}
-use Rattle.submit_values.specs.declared.error.ValueError.TheVariants as value
+use Rattle.submit_lines.specs.declared.error.ValueError.{ValueError}
+use Rattle.submit_lines.specs.declared.error.ValueError.TheVariants as value
 use Rattle.submit_file.specs.declared.draft.Place.{Place}
 use Rattle.submit_file.specs.declared.error.SubmitError.{SubmitError}
 use Rattle.submit_file.specs.declared.error.SubmitError.TheVariants as error

@@ -5,8 +5,8 @@ use Rattle.ad_value.specs.declared.names.job.TheConstants.{CLUSTER_ID, PROC_ID, 
 use Rattle.ad_tree.specs.Tree.{Tree, literal}
 use Rattle.ad_tree.specs.Ad.{Attributes}
 use Rattle.line_text.specs.Macros.{Macros}
-use Rattle.submit_values.specs.declared.command.Command.{Command}
-use Rattle.submit_values.specs.declared.command.Command.TheVariants as submit
+use Rattle.submit_lines.specs.declared.command.Command.{Command}
+use Rattle.submit_lines.specs.declared.command.Command.TheVariants as submit
 use Rattle.submit_file.specs.declared.draft.Place.{Place}
 use Rattle.submit_file.specs.declared.error.SubmitError.{SubmitError}
 use Rattle.submit_file.specs.declared.setting.LinesSoFar.{LinesSoFar}

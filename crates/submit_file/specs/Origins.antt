@@ -3,10 +3,10 @@ use Rattle.std.specs.Prelude.{ℕ, List, codes, Option, Some, None, Result, Ok}
 use Rattle.ad_value.specs.Content.{text}
 use Rattle.ad_value.specs.declared.names.job.TheConstants.{OWNER}
 use Rattle.ad_tree.specs.Tree.{Tree, literal}
-use Rattle.submit_values.specs.declared.command.Command.{Command}
-use Rattle.submit_values.specs.declared.error.ValueError.{ValueError}
-use Rattle.submit_values.specs.Commands.{command_name, attribute_name}
-use Rattle.submit_values.specs.Values.{value_at, preset_at, some_of, tree_of_text, string_at}
+use Rattle.submit_lines.specs.declared.command.Command.{Command}
+use Rattle.submit_lines.specs.declared.error.ValueError.{ValueError}
+use Rattle.submit_lines.specs.Commands.{command_name, attribute_name}
+use Rattle.submit_lines.specs.Values.{value_at, preset_at, some_of, tree_of_text, string_at}
 use Rattle.submit_file.specs.declared.setting.LinesSoFar.{LinesSoFar}
 use Rattle.submit_file.specs.declared.setting.Setting.{Setting}
 use Rattle.submit_file.specs.declared.source.Source.{Source}

@@ -2,8 +2,8 @@
 use Rattle.std.specs.Prelude.{◌≡◌, ◌⊎◌, ℕ, Bool, true, false, List, [], ◌∷◌, map, codes, Option, Some, None, Result, Err}
 use Rattle.std.specs.Option.{option_map}
 use Rattle.line_text.specs.Macros.{Macros, find_macro}
-use Rattle.submit_values.specs.declared.error.ValueError.{ValueError}
-use Rattle.submit_values.specs.declared.error.ValueError.TheVariants as fault
+use Rattle.submit_lines.specs.declared.error.ValueError.{ValueError}
+use Rattle.submit_lines.specs.declared.error.ValueError.TheVariants as fault
 use Rattle.submit_file.specs.declared.plan.Part.{Part}
 use Rattle.submit_file.specs.declared.plan.Plan.{Plan}
 use Rattle.submit_file.specs.declared.statement.Contribution.{Contribution}

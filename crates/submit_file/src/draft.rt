@@ -8,7 +8,7 @@ use crate::statement::NamedValue;
 use ad_tree::{Ad, Expr};
 use ad_value::Memory;
 use std::alloc::Global;
-use submit_values::{JobAd, ValueError};
+use submit_lines::{JobAd, ValueError};
 
 /// The ad of a job that is being made, and the refusal with the least line so far.
 #[derive(Drop)]

@@ -17,7 +17,7 @@ use ad_tree::{Ad, Expr};
 use ad_value::{Memory, Value};
 use line_text::MacroTable;
 use std::alloc::Global;
-use submit_values::Command;
+use submit_lines::Command;
 
 /// An attribute of the jobs of a queue statement.
 #[derive(Drop)]

@@ -1,8 +1,8 @@
 ghost use Rattle.std.specs.Prelude.{◌≡◌, Result};
 ghost use Rattle.std.specs.Option.{option_map};
 ghost use Rattle.ad_tree.specs.Tree.{Tree, tree};
-ghost use Rattle.submit_values.specs.declared.error.ValueError.{ValueError};
-ghost use Rattle.submit_values.specs.Values.{GivesValue, some_of};
+ghost use Rattle.submit_lines.specs.declared.error.ValueError.{ValueError};
+ghost use Rattle.submit_lines.specs.Values.{GivesValue, some_of};
 ghost use Rattle.submit_file.specs.Origins.{origin_of, setting_for, name_for, value_for, preset_for};
 
 use crate::setting::{LinesSoFar, Setting};
@@ -10,7 +10,7 @@ use ad_value::names::job::OWNER;
 use ad_tree::Expr;
 use ad_value::{Text, Value};
 use std::alloc::Global;
-use submit_values::{Command, ValueError, expression, string_expression};
+use submit_lines::{Command, ValueError, expression, string_expression};
 
 /// Where an attribute of a job comes from.
 #[derive(Clone, Copy)]

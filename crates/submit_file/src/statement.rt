@@ -1,8 +1,8 @@
 ghost use Rattle.std.specs.Prelude.{◌≡◌, Result, Option, Some, IfOk};
 ghost use Rattle.std.specs.Option.{option_map};
 ghost use Rattle.ad_tree.specs.Tree.{Tree, tree};
-ghost use Rattle.submit_values.specs.declared.error.ValueError.{ValueError};
-ghost use Rattle.submit_values.specs.Values.{GivesValue};
+ghost use Rattle.submit_lines.specs.declared.error.ValueError.{ValueError};
+ghost use Rattle.submit_lines.specs.Values.{GivesValue};
 ghost use Rattle.submit_file.specs.Drafts.{named_value, macro_refusal};
 ghost use Rattle.submit_file.specs.Errors.{IsNoMemory};
 ghost use Rattle.submit_file.specs.Origins.{origin_of, setting_for};
@@ -18,7 +18,7 @@ use ad_tree::Expr;
 use ad_value::Memory;
 use line_text::MacroTable;
 use std::alloc::Global;
-use submit_values::ValueError;
+use submit_lines::ValueError;
 
 /// What the ads of a file have in common.
 #[derive(Clone, Copy, Debug)]

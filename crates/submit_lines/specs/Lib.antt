@@ -1,6 +1,9 @@
-pub mod Names
-pub mod Lines
-pub mod Numbers
 pub mod Amounts
 pub mod Arguments
+pub mod Commands
+pub mod JobAds
+pub mod Lines
+pub mod Names
+pub mod Numbers
 pub mod Queue
+pub mod Values

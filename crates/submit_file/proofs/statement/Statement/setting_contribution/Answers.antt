@@ -1,6 +1,6 @@
 use Rattle.std.proofs.Common.{Ok, Err, ap, ◌∙◌, subst, option_map}
 use Rattle.ad_tree.specs.Tree.{tree}
-use Rattle.submit_values.specs.Values.{GivesValue}
+use Rattle.submit_lines.specs.Values.{GivesValue}
 use Rattle.submit_file.specs.Errors.{UnlessMemory, Replaced}
 use Rattle.submit_file.specs.Origins.{origin_of, name_for, value_for}
 use Rattle.submit_file.proofs.Takings.{set_gives, refusal_gives}

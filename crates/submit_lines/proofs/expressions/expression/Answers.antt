@@ -1,5 +1,5 @@
-use Rattle.submit_values.proofs.Readings.{read_is, refused_is}
-use Rattle.submit_values.proofs.expressions.expression.Goals as goal
+use Rattle.submit_lines.proofs.Readings.{read_is, refused_is}
+use Rattle.submit_lines.proofs.expressions.expression.Goals as goal
 
 pub returns-in-Ok : goal.returns-in-Ok
 returns-in-Ok c = read_is c.args.text.now _ c.in-Ok.ensures.found

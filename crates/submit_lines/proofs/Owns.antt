@@ -8,7 +8,7 @@ use Rattle.ad_value.specs.Content.{undefined}
 use Rattle.ad_tree.specs.Tree.{Tree, literal}
 use Rattle.ad_tree.specs.Ad.{Attributes}
 use Rattle.ad_rows.specs.Submitted.{is_own, own_attributes}
-use Rattle.submit_values.specs.JobAds.{own_at}
+use Rattle.submit_lines.specs.JobAds.{own_at}
 
 none : List ℕ × Tree
 none = ([], literal undefined)

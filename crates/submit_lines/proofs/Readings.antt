@@ -6,8 +6,8 @@ use Rattle.ad_parse.specs.declared.error.ParseError.{ParseError}
 use Rattle.ad_parse.specs.declared.error.ParseError.TheVariants as parse
 use Rattle.ad_parse.specs.ExprText.{IsExprText, IsRefused}
 use Rattle.ad_parse.proofs.Texts.{said_is_read, cause_is_read}
-use Rattle.submit_values.specs.declared.error.ValueError.{ValueError}
-use Rattle.submit_values.specs.Values.{of_reading, of_parse, tree_of_text, GivesValue}
+use Rattle.submit_lines.specs.declared.error.ValueError.{ValueError}
+use Rattle.submit_lines.specs.Values.{of_reading, of_parse, tree_of_text, GivesValue}
 
 pub read_is : (text : List ℕ) (e : Tree) → IsExprText text e → tree_of_text text ≡ Ok e
 read_is text e is = ap of_reading (said_is_read text e is)

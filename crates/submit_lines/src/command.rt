@@ -1,5 +1,5 @@
 ghost use Rattle.std.specs.Prelude.{◌≡◌};
-ghost use Rattle.submit_values.specs.Commands.{command_name, attribute_name};
+ghost use Rattle.submit_lines.specs.Commands.{command_name, attribute_name};
 
 use ad_value::names::job::{
     ARGS, ARGUMENTS, CMD, ERR, IN, IWD, JOB_LEASE_DURATION, JOB_PRIO, ON_EXIT_HOLD, ON_EXIT_REMOVE,

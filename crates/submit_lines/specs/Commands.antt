@@ -4,8 +4,8 @@ use Rattle.ad_value.specs.Bytes.{code}
 use Rattle.std.specs.Prelude.{ℕ, ◌==◌, List, [], codes, slice_index, if◌then◌else◌}
 use Rattle.ad_value.specs.declared.names.job.TheConstants.{ARGS, ARGUMENTS, CMD, ERR, IN, IWD, JOB_LEASE_DURATION, JOB_PRIO, ON_EXIT_HOLD, ON_EXIT_REMOVE, OUT, PERIODIC_HOLD, PERIODIC_RELEASE, PERIODIC_REMOVE, REQUEST_CPUS, REQUEST_DISK, REQUEST_MEMORY, USER_LOG}
 use Rattle.ad_value.specs.declared.names.matching.TheConstants.{REQUIREMENTS, RANK}
-use Rattle.submit_values.specs.declared.command.Command.{Command}
-use Rattle.submit_values.specs.declared.command.Command.TheVariants.{Executable, Arguments, Universe, InitialDir, Input, Output, Error, Log, Priority, Requirements, Rank, RequestCpus, RequestMemory, RequestDisk, JobLeaseDuration, OnExitHold, OnExitRemove, PeriodicHold, PeriodicRemove, PeriodicRelease}
+use Rattle.submit_lines.specs.declared.command.Command.{Command}
+use Rattle.submit_lines.specs.declared.command.Command.TheVariants.{Executable, Arguments, Universe, InitialDir, Input, Output, Error, Log, Priority, Requirements, Rank, RequestCpus, RequestMemory, RequestDisk, JobLeaseDuration, OnExitHold, OnExitRemove, PeriodicHold, PeriodicRemove, PeriodicRelease}
 
 abbrev pub command_name : Command → List ℕ
 command_name Executable = codes "executable"

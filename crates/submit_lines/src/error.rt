@@ -22,7 +22,7 @@ pub enum ValueError {
 
 impl From<Memory> for ValueError {
     ghost use Rattle.std.specs.Prelude.{◌≡◌};
-    ghost use Rattle.submit_values.specs.declared.error.ValueError.TheVariants as error;
+    ghost use Rattle.submit_lines.specs.declared.error.ValueError.TheVariants as error;
 
     ghost from_gives = { λ _ e. e ≡ error.Memory };
 

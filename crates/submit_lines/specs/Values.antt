@@ -18,10 +18,10 @@ use Rattle.submit_lines.specs.declared.amount.AmountUnit.TheVariants.{Kib, Mib}
 use Rattle.submit_lines.specs.Amounts.{amount_of}
 use Rattle.submit_lines.specs.Arguments.{plain_arguments, quoted_arguments}
 use Rattle.submit_lines.specs.Numbers as numbers
-use Rattle.submit_values.specs.declared.command.Command.{Command}
-use Rattle.submit_values.specs.declared.command.Command.TheVariants as command
-use Rattle.submit_values.specs.declared.error.ValueError.{ValueError}
-use Rattle.submit_values.specs.declared.error.ValueError.TheVariants as fault
+use Rattle.submit_lines.specs.declared.command.Command.{Command}
+use Rattle.submit_lines.specs.declared.command.Command.TheVariants as command
+use Rattle.submit_lines.specs.declared.error.ValueError.{ValueError}
+use Rattle.submit_lines.specs.declared.error.ValueError.TheVariants as fault
 
 abbrev pub TreeResult : Type 0
 TreeResult = Result Tree ValueError

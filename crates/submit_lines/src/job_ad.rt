@@ -1,7 +1,7 @@
 ghost use Rattle.std.specs.Prelude.{◌≡◌, [], OnOk, Some};
 ghost use Rattle.ad_tree.specs.Tree.{tree};
 ghost use Rattle.ad_rows.specs.Submitted.{own_attributes};
-ghost use Rattle.submit_values.specs.JobAds.{own_at, added, finished};
+ghost use Rattle.submit_lines.specs.JobAds.{own_at, added, finished};
 
 use ad_rows::MAX_OWN_ATTRIBUTES;
 use ad_value::names::is_pool_name;

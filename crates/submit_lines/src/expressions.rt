@@ -1,6 +1,6 @@
 ghost use Rattle.std.specs.Prelude.{◌≡◌};
 ghost use Rattle.ad_tree.specs.Tree.{tree};
-ghost use Rattle.submit_values.specs.Values.{GivesValue, of_parse, tree_of_text, tree_of_canon, string_at};
+ghost use Rattle.submit_lines.specs.Values.{GivesValue, of_parse, tree_of_text, tree_of_canon, string_at};
 
 use crate::error::ValueError;
 use ad_parse::{ParseError, parse_expr, print_expr};

@@ -4,7 +4,7 @@ ghost use Rattle.ad_value.specs.Content.{text};
 ghost use Rattle.ad_tree.specs.Tree.{tree, literal};
 ghost use Rattle.submit_lines.specs.Amounts.{amount_of};
 ghost use Rattle.submit_lines.specs.Arguments.{quoted_arguments};
-ghost use Rattle.submit_values.specs.Values.{GivesValue, whole_at, lease_of, amount_at, requirements_at, universe_at, is_closed, arguments_at, quoted_at, program_at, expr_at, value_at, preset_at};
+ghost use Rattle.submit_lines.specs.Values.{GivesValue, whole_at, lease_of, amount_at, requirements_at, universe_at, is_closed, arguments_at, quoted_at, program_at, expr_at, value_at, preset_at};
 
 use crate::command::Command;
 use crate::error::ValueError;
@@ -13,7 +13,7 @@ use ad_rows::{enough, with_enough};
 use ad_tree::Expr;
 use ad_value::{Text, Value};
 use std::alloc::Global;
-use submit_lines::{Amount, AmountUnit, integer, plain_arguments, quoted_arguments, read_amount};
+use crate::{Amount, AmountUnit, integer, plain_arguments, quoted_arguments, read_amount};
 
 // The longest lease of a job, in seconds.
 const LONGEST_LEASE: i64 = 1_000_000;
