@@ -1,6 +1,6 @@
 use ad_value::{Memory, Text};
 use cases::{Case, CaseError, escape};
-use pool_boot::{BootError, Boots, boot_line, read_boots};
+use pool_store::{BootError, Boots, boot_line, read_boots};
 use std::alloc::{AllocError, Global};
 use std::fmt::Write;
 

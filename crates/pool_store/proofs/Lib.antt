@@ -1,5 +1,8 @@
-pub mod Names
-pub mod Finds
+pub mod BootLines
 pub mod Changes
+pub mod Finds
+pub mod Largest
 pub mod Moves
+pub mod Names
+pub mod Newlines
 pub mod Pasts

@@ -1,3 +1,5 @@
+pub mod BadNumbers
+pub mod Boots
 pub mod MemoryFiles
-pub mod Past
 pub mod MemoryParts
+pub mod Past

@@ -1,3 +1,0 @@
-pub mod BootLines
-pub mod Largest
-pub mod Newlines

@@ -1,5 +1,0 @@
-use Rattle.pool_boot.proofs.BootLines.{one_thing}
-use Rattle.pool_boot.proofs.laws.file_says_one_thing.Goals as goal
-
-pub returns : goal.returns
-returns c = one_thing

@@ -1,2 +1,0 @@
-pub mod BadNumbers
-pub mod Boots
