@@ -22,7 +22,7 @@ use Rattle.pool_view.proofs.Sameness.{same_run-same}
 use Rattle.pool_view.specs.AbstractPool.{IsSpentAt}
 use Rattle.pool_view.specs.Numbers.{same_run}
 use Rattle.pool_view.specs.declared.run.Run.{Run}
-use Rattle.pool_protocol.specs.SlotPart.{SlotPart}
+use Rattle.pool_view.specs.SlotPart.{SlotPart}
 use Rattle.claim_id.specs.declared.pair.Cue.TheVariants as cue
 use Rattle.claim_id.specs.declared.pair.Pair.{Pair}
 use Rattle.claim_id.specs.declared.pair.Pair.TheVariants.{OwnerIdle, UnclaimedIdle, MatchedIdle, ClaimedIdle, ClaimedBusy, ClaimedRetiring, PreemptingVacating, PreemptingKilling}

@@ -14,7 +14,7 @@ use Rattle.pool_rules.specs.Happens.{Reacts}
 use Rattle.pool_parts.specs.declared.pending.Pending.{Pending}
 use Rattle.pool_parts.specs.declared.pending.Unfinished.{Unfinished}
 use Rattle.pool_parts.specs.declared.pending.Unfinished.TheVariants.{Submission, Plan}
-use Rattle.pool_protocol.specs.ProtocolMove.{protocol_after_all}
+use Rattle.pool_view.specs.ProtocolMove.{protocol_after_all}
 use Rattle.pool_rules.specs.Limits.{IsWithin}
 use Rattle.pool_core.proofs.CountedSteps.{opening_within}
 use Rattle.pool_safety.proofs.Counting.{event_counted, opening_counted}

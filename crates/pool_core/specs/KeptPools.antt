@@ -1,6 +1,6 @@
 -- What always holds of a pool.
 use Rattle.pool_parts.specs.Loggable.{IsLoggableQueue}
-use Rattle.pool_protocol.specs.Protocol.{Protocol}
+use Rattle.pool_view.specs.Protocol.{Protocol}
 use Rattle.pool_rules.specs.Limits.{IsWithin}
 use Rattle.pool_safety.specs.Counted.{HasFewJobs, IsCounted}
 use Rattle.pool_safety.specs.Few.{AreFew}

@@ -5,7 +5,7 @@ use Rattle.std.proofs.lemmas.List.{append_assoc}
 use Rattle.ad_tree.specs.Ad.{AreDistinct, Attributes}
 use Rattle.ad_tree.proofs.AdLemmas.{lookup-before, with_attribute-new}
 use Rattle.claim_id.specs.declared.numbers.JobId.{JobId}
-use Rattle.pool_protocol.specs.Protocol.{NewJob}
+use Rattle.pool_view.specs.Protocol.{NewJob}
 use Rattle.pool_view.specs.AbstractPool.{IsIn}
 use Rattle.pool_view.specs.Ads.{core_of}
 use Rattle.pool_view.specs.Numbers.{same_job}

@@ -4,7 +4,7 @@ use Rattle.ad_tree.specs.Ad.{Attributes}
 use Rattle.claim_id.specs.declared.numbers.JobId.{JobId}
 use Rattle.pool_view.specs.declared.job.State.{State}
 use Rattle.pool_view.specs.declared.job.State.TheVariants as state
-use Rattle.pool_protocol.specs.Protocol.{Protocol}
+use Rattle.pool_view.specs.Protocol.{Protocol}
 use Rattle.queue_tx.specs.declared.key.Key.TheVariants.{Proc}
 use Rattle.queue_tx.specs.declared.kind.JobKind.TheVariants as kind
 use Rattle.queue_tx.specs.Kinds.{kind_of}

@@ -13,8 +13,8 @@ use Rattle.pool_view.specs.declared.job.Outcome.TheVariants as outcome
 use Rattle.pool_view.specs.declared.job.State.{State}
 use Rattle.pool_view.specs.declared.job.State.TheVariants as state
 use Rattle.pool_view.proofs.Sameness.{same_job-true, same_job-same}
-use Rattle.pool_protocol.specs.Protocol.{JobRun, Protocol, change_steps, view_after_all}
-use Rattle.pool_protocol.specs.ProtocolMove.{grants_with_all}
+use Rattle.pool_view.specs.Protocol.{JobRun, Protocol, change_steps, view_after_all}
+use Rattle.pool_view.specs.ProtocolMove.{grants_with_all}
 use Rattle.queue_tx.specs.declared.key.Key.TheVariants.{Proc}
 use Rattle.queue_tx.specs.Queues.{KeyedAds, ad_at, queue_after}
 use Rattle.schedd_plan.specs.declared.plan.Completion.{Completion}

@@ -12,12 +12,12 @@ use Rattle.pool_view.specs.Numbers.{same_slot}
 use Rattle.pool_view.specs.Safe.{Safe}
 use Rattle.pool_view.specs.declared.mark.SlotMark.{SlotMark}
 use Rattle.pool_view.proofs.Sameness.{same_slot-true}
-use Rattle.pool_protocol.specs.Facts.{Facts}
-use Rattle.pool_protocol.specs.Protocol.{JobRun, Protocol, marks_with, mark_with_claim, mark_with_number, mark_after_claim, mark_after_boot}
-use Rattle.pool_protocol.specs.ProtocolMove.{ProtocolMove, PassTime, Pend, Commit, Drop, Confirm, TakeOrder, SendLease, HoldClaim, UseNumber, EndClaim, Reboot, StartRun, ExtendRun, StopRun, SayGone, MayAll, Remembers, grants_with, grants_with_all, protocol_after, protocol_after_all, steps_of}
-use Rattle.pool_protocol.proofs.Growing.{moves_remember}
-use Rattle.pool_protocol.proofs.Moves.{move_good}
-use Rattle.pool_protocol.proofs.Parts.{of_pending}
+use Rattle.pool_view.specs.Facts.{Facts}
+use Rattle.pool_view.specs.Protocol.{JobRun, Protocol, marks_with, mark_with_claim, mark_with_number, mark_after_claim, mark_after_boot}
+use Rattle.pool_view.specs.ProtocolMove.{ProtocolMove, PassTime, Pend, Commit, Drop, Confirm, TakeOrder, SendLease, HoldClaim, UseNumber, EndClaim, Reboot, StartRun, ExtendRun, StopRun, SayGone, MayAll, Remembers, grants_with, grants_with_all, protocol_after, protocol_after_all, steps_of}
+use Rattle.pool_view.proofs.Growing.{moves_remember}
+use Rattle.pool_view.proofs.Moves.{move_good}
+use Rattle.pool_view.proofs.Parts.{of_pending}
 use Rattle.pool_links.specs.Linked.{IsBorneOut, IsEndReported}
 
 -- ---- moves one after the other

@@ -10,12 +10,12 @@ use Rattle.schedd_plan.specs.declared.plan.JobPlan.TheVariants as plan
 use Rattle.schedd_core.specs.JobStates.{ShowsJobs}
 use Rattle.schedd_core.specs.PlanChanges.{change_of}
 use Rattle.schedd_core.specs.ScheddParts.{IsPart}
-use Rattle.pool_protocol.specs.Facts.{Facts}
-use Rattle.pool_protocol.specs.Protocol.{Protocol}
+use Rattle.pool_view.specs.Facts.{Facts}
+use Rattle.pool_view.specs.Protocol.{Protocol}
 use Rattle.pool_view.specs.Safe.{Safe}
-use Rattle.pool_protocol.specs.ProtocolMove.{ProtocolMove, MayAll, protocol_after_all}
-use Rattle.pool_protocol.specs.SlotPart.{HasParts, part_after_all}
-use Rattle.pool_protocol.proofs.Whole.{parts_on_all}
+use Rattle.pool_view.specs.ProtocolMove.{ProtocolMove, MayAll, protocol_after_all}
+use Rattle.pool_view.specs.SlotPart.{HasParts, part_after_all}
+use Rattle.pool_view.proofs.Whole.{parts_on_all}
 use Rattle.startd_core.specs.Sound.{IsSound}
 use Rattle.startd_core.specs.Startds.{After, StartdValue}
 use Rattle.pool_links.specs.Linked.{IsPlaced, AreBorneOut, AreEndsReported, IsFinishedAs, IsStartdAt, AreStartds, IsPlanPlaced, Awaits, IsLinked, StayLinked, ended_of}

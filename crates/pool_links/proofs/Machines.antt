@@ -8,11 +8,11 @@ use Rattle.pool_view.specs.AbstractPool.{IsIn}
 use Rattle.pool_view.specs.Numbers.{same_slot}
 use Rattle.pool_view.specs.Safe.{Safe}
 use Rattle.pool_view.proofs.Sameness.{same_slot-true}
-use Rattle.pool_protocol.specs.Facts.{Facts}
-use Rattle.pool_protocol.specs.Protocol.{Protocol}
-use Rattle.pool_protocol.specs.ProtocolMove.{ProtocolMove, MayAll, protocol_after_all}
-use Rattle.pool_protocol.specs.SlotPart.{SlotPart, IsPart, part_after, part_after_all}
-use Rattle.pool_protocol.proofs.Whole.{part_on_all}
+use Rattle.pool_view.specs.Facts.{Facts}
+use Rattle.pool_view.specs.Protocol.{Protocol}
+use Rattle.pool_view.specs.ProtocolMove.{ProtocolMove, MayAll, protocol_after_all}
+use Rattle.pool_view.specs.SlotPart.{SlotPart, IsPart, part_after, part_after_all}
+use Rattle.pool_view.proofs.Whole.{part_on_all}
 use Rattle.startd_slot.specs.declared.slot.Slot.{Slot}
 use Rattle.startd_slot.specs.SlotMoves.{part_of}
 use Rattle.startd_core.specs.Sound.{IsSlotAt, IsSound}

@@ -11,11 +11,11 @@ use Rattle.pool_view.specs.Ads.{core_of}
 use Rattle.pool_view.specs.declared.job.Entry.{Entry}
 use Rattle.pool_view.specs.declared.job.State.{State}
 use Rattle.pool_view.specs.declared.job.State.TheVariants as state
-use Rattle.pool_protocol.specs.Facts.{IsOpening, IsUnstarted}
-use Rattle.pool_protocol.specs.Protocol.{Protocol}
-use Rattle.pool_protocol.specs.SlotPart.{SlotPart, AreDistinct, HasParts, ShowsParts, part_at}
-use Rattle.pool_protocol.proofs.Same.{opening_facts, opening_safe}
-use Rattle.pool_protocol.proofs.Whole.{part_found, parts_of_shown}
+use Rattle.pool_view.specs.Facts.{IsOpening, IsUnstarted}
+use Rattle.pool_view.specs.Protocol.{Protocol}
+use Rattle.pool_view.specs.SlotPart.{SlotPart, AreDistinct, HasParts, ShowsParts, part_at}
+use Rattle.pool_view.proofs.Same.{opening_facts, opening_safe}
+use Rattle.pool_view.proofs.Whole.{part_found, parts_of_shown}
 use Rattle.queue_tx.specs.declared.key.Key.TheVariants.{Proc}
 use Rattle.queue_tx.specs.declared.kind.JobKind.{JobKind}
 use Rattle.queue_tx.specs.declared.kind.JobKind.TheVariants as kind

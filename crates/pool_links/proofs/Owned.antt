@@ -7,9 +7,9 @@ use Rattle.pool_view.specs.AbstractStep.{reports_with}
 use Rattle.pool_view.specs.Numbers.{same_slot}
 use Rattle.pool_view.specs.declared.run.EndReport.{EndReport}
 use Rattle.pool_view.specs.declared.run.Run.{Run}
-use Rattle.pool_protocol.specs.Protocol.{Protocol}
-use Rattle.pool_protocol.specs.ProtocolMove.{ProtocolMove, PassTime, Pend, Commit, Drop, Confirm, TakeOrder, SendLease, HoldClaim, UseNumber, EndClaim, Reboot, StartRun, ExtendRun, StopRun, SayGone, protocol_after, protocol_after_all}
-use Rattle.pool_protocol.specs.SlotPart.{SlotPart, is_of_slot, own_part_after, part_after, part_after_all}
+use Rattle.pool_view.specs.Protocol.{Protocol}
+use Rattle.pool_view.specs.ProtocolMove.{ProtocolMove, PassTime, Pend, Commit, Drop, Confirm, TakeOrder, SendLease, HoldClaim, UseNumber, EndClaim, Reboot, StartRun, ExtendRun, StopRun, SayGone, protocol_after, protocol_after_all}
+use Rattle.pool_view.specs.SlotPart.{SlotPart, is_of_slot, own_part_after, part_after, part_after_all}
 
 -- a move of the slot
 abbrev pub IsOwn : SlotId → ProtocolMove → Type 0

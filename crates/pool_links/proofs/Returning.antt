@@ -6,9 +6,9 @@ use Rattle.claim_id.specs.declared.numbers.ClaimId.{ClaimId}
 use Rattle.claim_id.specs.declared.numbers.JobId.{JobId}
 use Rattle.pool_view.specs.AbstractPool.{IsIn, SameMembers}
 use Rattle.pool_view.specs.declared.job.Entry.{Entry}
-use Rattle.pool_protocol.specs.Facts.{Facts}
-use Rattle.pool_protocol.specs.Protocol.{JobRun, Protocol}
-use Rattle.pool_protocol.specs.ProtocolMove.{ProtocolMove, Commit, Drop, MayAll, protocol_after}
+use Rattle.pool_view.specs.Facts.{Facts}
+use Rattle.pool_view.specs.Protocol.{JobRun, Protocol}
+use Rattle.pool_view.specs.ProtocolMove.{ProtocolMove, Commit, Drop, MayAll, protocol_after}
 use Rattle.queue_tx.specs.declared.key.Key.TheVariants.{Proc}
 use Rattle.queue_tx.specs.Operations.{Operation}
 use Rattle.queue_tx.specs.Queues.{KeyedAds, ad_at, queue_after}

@@ -2,9 +2,9 @@
 use Rattle.std.proofs.Common.{List, Option, IsSome, refl, sym, ◌∙◌, subst}
 use Rattle.pool_view.specs.AbstractPool.{AbstractPool, SameView}
 use Rattle.pool_view.specs.declared.mark.SlotMark.{SlotMark}
-use Rattle.pool_protocol.specs.Protocol.{Protocol}
-use Rattle.pool_protocol.specs.SlotPart.{HasParts, SlotPart}
-use Rattle.pool_protocol.proofs.Same.{same_facts}
+use Rattle.pool_view.specs.Protocol.{Protocol}
+use Rattle.pool_view.specs.SlotPart.{HasParts, SlotPart}
+use Rattle.pool_view.proofs.Same.{same_facts}
 use Rattle.pool_links.specs.Linked.{IsLinked, ended_of}
 use Rattle.pool_links.specs.PoolParts.{PoolParts, pool_parts}
 use Rattle.pool_links.specs.Shown.{ShowsPool}

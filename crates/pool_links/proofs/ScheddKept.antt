@@ -8,12 +8,12 @@ use Rattle.queue_tx.specs.declared.key.Key.TheVariants.{Proc}
 use Rattle.queue_tx.specs.Queues.{ad_at}
 use Rattle.schedd_table.specs.declared.claims.KeptClaim.{KeptClaim}
 use Rattle.schedd_core.specs.ScheddParts.{IsPart}
-use Rattle.pool_protocol.specs.Facts.{CanBeMade, Facts, IsOfJob}
+use Rattle.pool_view.specs.Facts.{CanBeMade, Facts, IsOfJob}
 use Rattle.pool_view.specs.Safe.{Safe}
-use Rattle.pool_protocol.specs.Protocol.{Change, Hidden, Submission, OfJob, Removal, JobRun, NewJob, Protocol, pending_steps, queue_step, view_after_all}
-use Rattle.pool_protocol.specs.ProtocolMove.{ProtocolMove, PassTime, Pend, Commit, Drop, Confirm, TakeOrder, SendLease, HoldClaim, UseNumber, EndClaim, Reboot, StartRun, ExtendRun, StopRun, SayGone, MayAll, protocol_after, protocol_after_all}
-use Rattle.pool_protocol.specs.SlotPart.{SlotPart, HasParts, part_after, part_after_all}
-use Rattle.pool_protocol.proofs.Whole.{parts_on_all}
+use Rattle.pool_view.specs.Protocol.{Change, Hidden, Submission, OfJob, Removal, JobRun, NewJob, Protocol, pending_steps, queue_step, view_after_all}
+use Rattle.pool_view.specs.ProtocolMove.{ProtocolMove, PassTime, Pend, Commit, Drop, Confirm, TakeOrder, SendLease, HoldClaim, UseNumber, EndClaim, Reboot, StartRun, ExtendRun, StopRun, SayGone, MayAll, protocol_after, protocol_after_all}
+use Rattle.pool_view.specs.SlotPart.{SlotPart, HasParts, part_after, part_after_all}
+use Rattle.pool_view.proofs.Whole.{parts_on_all}
 use Rattle.pool_links.specs.Linked.{IsPlaced, AreBorneOut, IsFinishedAs, AreStartds, Awaits, IsLinked, StayLinked, ended_of}
 use Rattle.pool_links.specs.PoolParts.{PoolParts, pool_parts}
 use Rattle.pool_links.specs.Wanted.{parts_with_mails}

@@ -8,9 +8,9 @@ use Rattle.pool_mail.specs.declared.mail.Mail.{Mail}
 use Rattle.pool_mail.specs.declared.mail.Mail.TheVariants as mail
 use Rattle.pool_view.specs.AbstractPool.{IsIn, SameMembers}
 use Rattle.pool_view.specs.declared.job.Entry.{Entry}
-use Rattle.pool_protocol.specs.Facts.{Facts}
-use Rattle.pool_protocol.specs.Protocol.{JobRun, Protocol, change_steps, pending_steps, view_after_all}
-use Rattle.pool_protocol.specs.ProtocolMove.{ProtocolMove, Commit, MayAll, grants_with_all, protocol_after, protocol_after_all}
+use Rattle.pool_view.specs.Facts.{Facts}
+use Rattle.pool_view.specs.Protocol.{JobRun, Protocol, change_steps, pending_steps, view_after_all}
+use Rattle.pool_view.specs.ProtocolMove.{ProtocolMove, Commit, MayAll, grants_with_all, protocol_after, protocol_after_all}
 use Rattle.queue_tx.specs.declared.key.Key.TheVariants.{Proc}
 use Rattle.queue_tx.specs.Queues.{KeyedAds, ad_at, queue_after}
 use Rattle.schedd_plan.specs.declared.plan.JobPlan.{JobPlan}

@@ -8,8 +8,8 @@ use Rattle.pool_mail.specs.declared.mail.Mail.{Mail}
 use Rattle.pool_mail.specs.declared.mail.Mail.TheVariants as mail
 use Rattle.pool_view.specs.AbstractPool.{IsIn, SameMembers}
 use Rattle.pool_view.specs.declared.job.Entry.{Entry}
-use Rattle.pool_protocol.specs.Protocol.{Change, Protocol}
-use Rattle.pool_protocol.specs.ProtocolMove.{ProtocolMove, TakeOrder, MayAll, protocol_after, protocol_after_all}
+use Rattle.pool_view.specs.Protocol.{Change, Protocol}
+use Rattle.pool_view.specs.ProtocolMove.{ProtocolMove, TakeOrder, MayAll, protocol_after, protocol_after_all}
 use Rattle.queue_tx.specs.declared.key.Key.TheVariants.{Proc}
 use Rattle.queue_tx.specs.declared.kind.JobKind.{JobKind}
 use Rattle.queue_tx.specs.declared.kind.JobKind.TheVariants as kind

@@ -14,7 +14,7 @@ use Rattle.pool_mail.specs.declared.mail.Mail.TheVariants as mail
 use Rattle.pool_mail.specs.declared.matching.Match.{Match}
 use Rattle.pool_mail.specs.declared.why.Why.{Why}
 use Rattle.pool_view.specs.AbstractPool.{IsIn}
-use Rattle.pool_protocol.specs.Protocol.{Protocol}
+use Rattle.pool_view.specs.Protocol.{Protocol}
 use Rattle.queue_tx.specs.declared.key.Key.{Key}
 use Rattle.queue_tx.specs.declared.key.Key.TheVariants.{Header, Proc}
 use Rattle.queue_tx.specs.Queues.{KeyedAds, ad_at}

@@ -16,8 +16,8 @@ use Rattle.pool_mail.specs.declared.mail.Mail.{Mail}
 use Rattle.pool_mail.specs.declared.mail.Mail.TheVariants.{Update, Matched, Ask, Granted, Denied, Activate, Alive, Seen, Stop, Release, Gone, Ended, Remove, Hold, Resume}
 use Rattle.pool_outer.specs.declared.spawner.Launch.{Launch}
 use Rattle.pool_view.specs.Numbers.{same_claim, same_run}
-use Rattle.pool_protocol.specs.Protocol.{Protocol}
-use Rattle.pool_protocol.specs.ProtocolMove.{ProtocolMove, HoldClaim, protocol_after_all}
+use Rattle.pool_view.specs.Protocol.{Protocol}
+use Rattle.pool_view.specs.ProtocolMove.{ProtocolMove, HoldClaim, protocol_after_all}
 use Rattle.claim_id.specs.declared.pair.Cue.TheVariants as cue
 use Rattle.claim_id.specs.declared.pair.Pair.{Pair}
 use Rattle.claim_id.specs.declared.pair.Pair.TheVariants.{OwnerIdle, UnclaimedIdle, MatchedIdle, ClaimedIdle, ClaimedBusy, ClaimedRetiring, PreemptingVacating, PreemptingKilling}
@@ -62,7 +62,7 @@ goes_quiet : (slot : SlotId) (o : Option Running) (until reading : ℕ) → IsQu
 goes_quiet slot None until reading = (tt, refl)
 goes_quiet slot (Some r) until reading = by (nat_lt reading until)
   where
-    by : (b : Bool) → IsQuiet slot (if b then Rattle.pool_protocol.specs.ProtocolMove.ExtendRun (Rattle.startd_slot.specs.SlotMoves.run_in_slot slot r) until ∷ [] else [])
+    by : (b : Bool) → IsQuiet slot (if b then Rattle.pool_view.specs.ProtocolMove.ExtendRun (Rattle.startd_slot.specs.SlotMoves.run_in_slot slot r) until ∷ [] else [])
     by true = ((refl, tt), refl)
     by false = (tt, refl)
 

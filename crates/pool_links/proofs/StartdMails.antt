@@ -15,10 +15,10 @@ use Rattle.pool_view.specs.AbstractPool.{IsIn}
 use Rattle.pool_view.specs.declared.mark.SlotMark.{SlotMark}
 use Rattle.pool_view.specs.declared.run.EndReport.{EndReport}
 use Rattle.pool_view.proofs.Sameness.{both_true}
-use Rattle.pool_protocol.specs.Protocol.{Protocol}
-use Rattle.pool_protocol.specs.ProtocolMove.{ProtocolMove, MayAll, protocol_after_all}
-use Rattle.pool_protocol.specs.SlotPart.{SlotPart, part_after_all, part_at}
-use Rattle.pool_protocol.proofs.Whole.{part_found}
+use Rattle.pool_view.specs.Protocol.{Protocol}
+use Rattle.pool_view.specs.ProtocolMove.{ProtocolMove, MayAll, protocol_after_all}
+use Rattle.pool_view.specs.SlotPart.{SlotPart, part_after_all, part_at}
+use Rattle.pool_view.proofs.Whole.{part_found}
 use Rattle.startd_slot.specs.declared.reaction.Reaction.{Reaction}
 use Rattle.startd_slot.specs.declared.slot.Slot.{Slot}
 use Rattle.startd_slot.specs.declared.slot.SlotState.{SlotState}
@@ -265,7 +265,7 @@ of_machine machine (Resume job) claim there asked = absurd (none-some claim aske
 granted_placed : (p : Protocol) (a : PoolParts) (run : RunNo) → IsLinked p a → Rattle.pool_links.specs.Linked.IsGranted p run → IsPlaced p run.claim
 granted_placed p a run linked (job, there) = linked.granted _ there
 
-leased_placed : (p : Protocol) (a : PoolParts) (run : RunNo) → IsLinked p a → ((l : Rattle.pool_protocol.specs.Protocol.Lease) × IsIn l p.leases × (l.run ≡ run)) → IsPlaced p run.claim
+leased_placed : (p : Protocol) (a : PoolParts) (run : RunNo) → IsLinked p a → ((l : Rattle.pool_view.specs.Protocol.Lease) × IsIn l p.leases × (l.run ≡ run)) → IsPlaced p run.claim
 leased_placed p a run linked (l, there, same) = subst (λ (r : RunNo). IsPlaced p r.claim) same (linked.granted _ (linked.facts.leases.granted l there))
 
 -- of a slot that the machine lacks nothing is said but that it has no such claim

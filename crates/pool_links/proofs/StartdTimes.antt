@@ -4,9 +4,9 @@ use Rattle.std.proofs.lemmas.List.{append_assoc, append-nil, map-append}
 use Rattle.claim_id.specs.declared.numbers.SlotId.{SlotId}
 use Rattle.pool_mail.specs.declared.settings.Settings.{Settings}
 use Rattle.pool_view.specs.AbstractPool.{IsIn}
-use Rattle.pool_protocol.specs.Protocol.{Protocol}
-use Rattle.pool_protocol.specs.ProtocolMove.{ProtocolMove, MayAll, Reboot, protocol_after_all}
-use Rattle.pool_protocol.specs.SlotPart.{SlotPart, IsPart}
+use Rattle.pool_view.specs.Protocol.{Protocol}
+use Rattle.pool_view.specs.ProtocolMove.{ProtocolMove, MayAll, Reboot, protocol_after_all}
+use Rattle.pool_view.specs.SlotPart.{SlotPart, IsPart}
 use Rattle.claim_id.specs.declared.pair.Pair.{Pair}
 use Rattle.claim_id.specs.declared.pair.Pair.TheVariants.{OwnerIdle, UnclaimedIdle, MatchedIdle, ClaimedIdle, ClaimedBusy, ClaimedRetiring, PreemptingVacating, PreemptingKilling}
 use Rattle.claim_id.specs.declared.pair.Cue.TheVariants as cue

@@ -10,10 +10,10 @@ use Rattle.pool_view.specs.Numbers.{same_job}
 use Rattle.pool_view.specs.declared.job.Entry.{Entry}
 use Rattle.pool_view.specs.declared.job.State.TheVariants as state
 use Rattle.pool_view.proofs.Sameness.{same_job-true, same_job-same}
-use Rattle.pool_protocol.specs.Facts.{CanBeMade}
-use Rattle.pool_protocol.specs.Protocol.{AreNew, JobRun, NewJob, Protocol, Submission, jobs_with, pending_steps, queue_step, view_after_all}
-use Rattle.pool_protocol.specs.ProtocolMove.{ProtocolMove, Commit, Confirm, MayAll, Pend, confirm_move, grants_with_all, protocol_after, protocol_after_all, removals_with}
-use Rattle.pool_protocol.proofs.SeveralMoves.{commit_submission}
+use Rattle.pool_view.specs.Facts.{CanBeMade}
+use Rattle.pool_view.specs.Protocol.{AreNew, JobRun, NewJob, Protocol, Submission, jobs_with, pending_steps, queue_step, view_after_all}
+use Rattle.pool_view.specs.ProtocolMove.{ProtocolMove, Commit, Confirm, MayAll, Pend, confirm_move, grants_with_all, protocol_after, protocol_after_all, removals_with}
+use Rattle.pool_view.proofs.SeveralMoves.{commit_submission}
 use Rattle.queue_tx.specs.declared.key.Key.TheVariants.{Proc}
 use Rattle.queue_tx.specs.declared.kind.JobKind.TheVariants as kind
 use Rattle.queue_tx.specs.Kinds.{kind_of}

@@ -4,7 +4,7 @@ use Rattle.claim_id.specs.declared.numbers.SlotId.{SlotId}
 use Rattle.pool_mail.specs.declared.mail.Mail.{Mail}
 use Rattle.pool_mail.specs.declared.mail.Mail.TheVariants as mail
 use Rattle.pool_view.specs.AbstractPool.{IsIn}
-use Rattle.pool_protocol.specs.Protocol.{Protocol}
+use Rattle.pool_view.specs.Protocol.{Protocol}
 use Rattle.startd_slot.specs.declared.slot.Slot.{Slot}
 use Rattle.pool_links.specs.Linked.{IsBorneOut, IsLinked, StayLinked}
 use Rattle.pool_links.specs.PoolParts.{PoolParts, slot_in_pool}

@@ -3,7 +3,7 @@ use Rattle.std.specs.Prelude.{◌≡◌, ℕ, List, [], ◌∷◌, ◌++◌, map
 use Rattle.ad_tree.specs.Ad.{AreDistinct, Attributes}
 use Rattle.ad_tree.specs.Tree.{Tree}
 use Rattle.claim_id.specs.declared.numbers.JobId.{JobId}
-use Rattle.pool_protocol.specs.Protocol.{NewJob}
+use Rattle.pool_view.specs.Protocol.{NewJob}
 use Rattle.pool_view.specs.Ads.{core_of}
 use Rattle.queue_tx.specs.declared.key.Key.TheVariants.{Header, Proc}
 use Rattle.queue_tx.specs.declared.kind.JobKind.TheVariants.{Idle}

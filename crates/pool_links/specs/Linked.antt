@@ -8,10 +8,10 @@ use Rattle.claim_id.specs.Texts.{IsClaim}
 use Rattle.pool_mail.specs.declared.end.How.{How}
 use Rattle.pool_mail.specs.declared.mail.Mail.{Mail}
 use Rattle.pool_mail.specs.declared.mail.Mail.TheVariants as mail
-use Rattle.pool_protocol.specs.Facts.{Facts}
-use Rattle.pool_protocol.specs.Protocol.{JobRun, NewJob, Submission, Protocol}
-use Rattle.pool_protocol.specs.ProtocolMove.{ProtocolMove, MayAll, protocol_after_all}
-use Rattle.pool_protocol.specs.SlotPart.{HasParts}
+use Rattle.pool_view.specs.Facts.{Facts}
+use Rattle.pool_view.specs.Protocol.{JobRun, NewJob, Submission, Protocol}
+use Rattle.pool_view.specs.ProtocolMove.{ProtocolMove, MayAll, protocol_after_all}
+use Rattle.pool_view.specs.SlotPart.{HasParts}
 use Rattle.pool_view.specs.AbstractPool.{IsIn, SameMembers}
 use Rattle.pool_view.specs.Ads.{core_of}
 use Rattle.pool_view.specs.Safe.{Safe}

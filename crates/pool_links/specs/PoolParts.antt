@@ -3,7 +3,7 @@ use Rattle.std.specs.Prelude.{ℕ, List, [], ◌∷◌, ◌++◌, map, slice_get
 use Rattle.claim_id.specs.declared.numbers.JobId.{JobId}
 use Rattle.claim_id.specs.declared.numbers.SlotId.{SlotId}
 use Rattle.pool_mail.specs.declared.mail.Mail.{Mail}
-use Rattle.pool_protocol.specs.SlotPart.{SlotPart}
+use Rattle.pool_view.specs.SlotPart.{SlotPart}
 use Rattle.pool_view.specs.declared.job.Entry.{Entry}
 use Rattle.pool_view.specs.declared.run.EndReport.{EndReport}
 use Rattle.queue_tx.specs.Operations.{Operation}

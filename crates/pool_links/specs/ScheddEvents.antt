@@ -5,7 +5,7 @@ use Rattle.claim_id.specs.declared.numbers.ClaimId.{ClaimId}
 use Rattle.claim_id.specs.declared.numbers.JobId.{JobId}
 use Rattle.pool_mail.specs.declared.mail.Mail.{Mail}
 use Rattle.pool_mail.specs.declared.mail.Mail.TheVariants as mail
-use Rattle.pool_protocol.specs.ProtocolMove.{ProtocolMove, TakeOrder}
+use Rattle.pool_view.specs.ProtocolMove.{ProtocolMove, TakeOrder}
 use Rattle.pool_view.specs.AbstractPool.{set}
 use Rattle.pool_view.specs.Ads.{core_of}
 use Rattle.pool_view.specs.Numbers.{same_job}

@@ -2,7 +2,7 @@
 use Rattle.std.specs.Prelude.{◌≡◌, ◌⊎◌, IsSome}
 use Rattle.claim_id.specs.declared.numbers.JobId.{JobId}
 use Rattle.pool_mail.specs.declared.mail.Mail.{Mail}
-use Rattle.pool_protocol.specs.SlotPart.{ShowsParts}
+use Rattle.pool_view.specs.SlotPart.{ShowsParts}
 use Rattle.pool_view.specs.AbstractPool.{AbstractPool, IsIn, SameMembers}
 use Rattle.pool_view.specs.declared.job.Outcome.TheVariants.{EndedBy, Removed}
 use Rattle.pool_view.specs.declared.job.State.{State}

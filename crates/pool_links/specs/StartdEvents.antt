@@ -3,7 +3,7 @@ use Rattle.std.specs.Prelude.{ℕ, ◌+◌, max, Bool, List, [], ◌∷◌, ◌+
 use Rattle.ad_eval.specs.Judgement.{Judgement}
 use Rattle.pool_mail.specs.declared.end.Ending.{Ending}
 use Rattle.pool_mail.specs.declared.mail.Mail.{Mail}
-use Rattle.pool_protocol.specs.ProtocolMove.{ProtocolMove}
+use Rattle.pool_view.specs.ProtocolMove.{ProtocolMove}
 use Rattle.pool_view.specs.declared.run.EndReport.{EndReport}
 use Rattle.startd_slot.specs.declared.held.Running.{Running}
 use Rattle.startd_slot.specs.declared.slot.Slot.{Slot}

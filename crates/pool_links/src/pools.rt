@@ -3,8 +3,8 @@
 ghost use Rattle.std.specs.Prelude.{[], ◌++◌, List, IfSome};
 ghost use Rattle.claim_id.specs.declared.numbers.JobId.{JobId};
 ghost use Rattle.pool_mail.specs.declared.mail.Mail.{Mail};
-ghost use Rattle.pool_protocol.specs.Protocol.{Protocol};
-ghost use Rattle.pool_protocol.specs.ProtocolMove.{ProtocolMove, all_steps, protocol_after_all};
+ghost use Rattle.pool_view.specs.Protocol.{Protocol};
+ghost use Rattle.pool_view.specs.ProtocolMove.{ProtocolMove, all_steps, protocol_after_all};
 ghost use Rattle.pool_view.specs.AbstractPool.{AbstractPool, IsIn, SameView};
 ghost use Rattle.pool_view.specs.AbstractStep.{Takes};
 ghost use Rattle.pool_view.specs.Safe.{Safe};

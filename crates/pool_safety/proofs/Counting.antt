@@ -16,7 +16,7 @@ use Rattle.pool_outer.specs.declared.gate.Daemon.TheVariants.{Schedd, Startd, Ma
 use Rattle.pool_parts.specs.declared.pending.Pending.{Pending}
 use Rattle.pool_parts.specs.declared.pending.Unfinished.{Unfinished}
 use Rattle.pool_parts.specs.declared.pending.Unfinished.TheVariants.{Submission, Plan}
-use Rattle.pool_protocol.specs.Protocol.{Protocol}
+use Rattle.pool_view.specs.Protocol.{Protocol}
 use Rattle.pool_state.specs.Openings.{IsJobCount, IsOpenedBy}
 use Rattle.pool_state.specs.declared.opening.Opening.{Opening}
 use Rattle.pool_state.specs.declared.state.Counts.{Counts as Counters}

@@ -2,8 +2,8 @@
 use Rattle.std.proofs.Common.{◌≡◌, ℕ, ◌+◌, List, [], ◌∷◌, Option, ap, sym, subst, arith}
 use Rattle.claim_id.specs.declared.numbers.ClaimId.{ClaimId}
 use Rattle.pool_parts.specs.Sizes.{queue_count}
-use Rattle.pool_protocol.specs.Protocol.{Protocol}
-use Rattle.pool_protocol.specs.ProtocolMove.{protocol_after_all}
+use Rattle.pool_view.specs.Protocol.{Protocol}
+use Rattle.pool_view.specs.ProtocolMove.{protocol_after_all}
 use Rattle.pool_state.specs.declared.opening.Opening.{Opening}
 use Rattle.pool_state.specs.declared.state.PoolState.{PoolState}
 use Rattle.schedd_state.specs.Reopening.{IsReader}

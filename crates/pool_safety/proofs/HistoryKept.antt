@@ -12,8 +12,8 @@ use Rattle.pool_links.proofs.Viewing.{linked_shows, shown_safe, steps_lead}
 use Rattle.pool_rules.specs.Happens.{Reacts, counts_brought, latest_after}
 use Rattle.pool_safety.specs.Parts.{parts_of}
 use Rattle.pool_outer.specs.declared.gate.Daemon.TheVariants.{Schedd, Startd, Matchmaker}
-use Rattle.pool_protocol.specs.Protocol.{Protocol}
-use Rattle.pool_protocol.specs.ProtocolMove.{all_steps, protocol_after_all}
+use Rattle.pool_view.specs.Protocol.{Protocol}
+use Rattle.pool_view.specs.ProtocolMove.{all_steps, protocol_after_all}
 use Rattle.pool_state.specs.declared.opening.Opening.{Opening}
 use Rattle.pool_state.specs.declared.state.Counts.{Counts}
 use Rattle.pool_state.specs.declared.state.PoolState.{PoolState}

@@ -14,7 +14,7 @@ use Rattle.pool_rules.specs.Answers.{answer_of_startd, answer_with, pending_by}
 use Rattle.pool_rules.specs.Happens.{Happens, counts_brought, counts_event}
 use Rattle.pool_safety.specs.Parts.{parts_of}
 use Rattle.pool_outer.specs.declared.gate.Daemon.TheVariants.{Schedd, Startd, Matchmaker}
-use Rattle.pool_protocol.specs.Protocol.{Protocol}
+use Rattle.pool_view.specs.Protocol.{Protocol}
 use Rattle.pool_rules.specs.Refusals.{IsEventRefusal}
 use Rattle.pool_state.specs.declared.opening.Opening.{Opening}
 use Rattle.pool_state.specs.declared.state.PoolState.{PoolState}

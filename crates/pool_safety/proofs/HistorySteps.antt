@@ -3,7 +3,7 @@ use Rattle.std.proofs.Common.{◌≡◌, ◌⊎◌, inl, inr, List, [], ◌∷�
 use Rattle.std.proofs.lemmas.Option.{none-some}
 use Rattle.claim_id.specs.declared.numbers.JobId.{JobId}
 use Rattle.pool_view.proofs.Steps.{step_done}
-use Rattle.pool_protocol.proofs.Pending.{ordered_more}
+use Rattle.pool_view.proofs.Pending.{ordered_more}
 use Rattle.pool_view.specs.AbstractPool.{AbstractPool, IsIn, SameMembers, SameView, Stands}
 use Rattle.pool_view.specs.AbstractStep.{AbstractStep, Allowed, Takes, view_after, Time, Queue, Acknowledge, Order, Grant, Start, Mark, Extend, Stop, Free, Finish, Hold, Release, Lengthen}
 use Rattle.pool_view.specs.declared.job.Entry.{Entry}

@@ -6,8 +6,8 @@ use Rattle.claim_id.specs.declared.numbers.JobId.{JobId}
 use Rattle.pool_parts.specs.Plans.{leaving_job}
 use Rattle.pool_parts.specs.declared.pending.Unfinished.{Unfinished}
 use Rattle.pool_parts.specs.declared.pending.Unfinished.TheVariants.{Submission, Plan}
-use Rattle.pool_protocol.specs.Facts.{CanBeMade}
-use Rattle.pool_protocol.specs.Protocol.{AreNew, NewJob, Protocol}
+use Rattle.pool_view.specs.Facts.{CanBeMade}
+use Rattle.pool_view.specs.Protocol.{AreNew, NewJob, Protocol}
 use Rattle.pool_state.specs.Openings.{IsJobCount}
 use Rattle.pool_state.specs.declared.state.PoolState.{PoolState}
 use Rattle.pool_view.proofs.Sameness.{same_job-true}

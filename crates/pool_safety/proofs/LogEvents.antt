@@ -13,7 +13,7 @@ use Rattle.pool_outer.specs.declared.gate.Daemon.TheVariants.{Schedd, Startd, Ma
 use Rattle.pool_parts.specs.declared.pending.Pending.{Pending}
 use Rattle.pool_parts.specs.declared.pending.Unfinished.{Unfinished}
 use Rattle.pool_parts.specs.declared.pending.Unfinished.TheVariants.{Submission, Plan}
-use Rattle.pool_protocol.specs.Protocol.{Protocol}
+use Rattle.pool_view.specs.Protocol.{Protocol}
 use Rattle.pool_state.specs.declared.state.PoolState.{PoolState}
 use Rattle.pool_tables.specs.OrderTables.{is_due_for}
 use Rattle.pool_tables.specs.declared.sent.Sent.{Sent}

@@ -10,7 +10,7 @@ use Rattle.pool_parts.specs.Clusters.{has_cluster, is_used}
 use Rattle.pool_parts.specs.declared.pending.Pending.{Pending}
 use Rattle.pool_parts.specs.declared.pending.Unfinished.{Unfinished}
 use Rattle.pool_parts.specs.declared.pending.Unfinished.TheVariants.{Plan}
-use Rattle.pool_protocol.specs.Protocol.{Protocol}
+use Rattle.pool_view.specs.Protocol.{Protocol}
 use Rattle.pool_rules.specs.Refusals.{IsEventRefusal, IsRefusal, closed_refusal, events_refusal, first_of, is_over, jobs_refusal, schedd_refusal}
 use Rattle.pool_state.specs.declared.opening.TheConstants.{MAX_JOBS}
 use Rattle.pool_state.specs.declared.state.PoolState.{PoolState}

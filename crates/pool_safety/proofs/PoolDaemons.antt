@@ -7,7 +7,7 @@ use Rattle.pool_mail.specs.declared.end.Ending.{Ending}
 use Rattle.pool_rules.specs.Happens.{Happens, crashes}
 use Rattle.pool_outer.specs.declared.gate.Daemon.{Daemon}
 use Rattle.pool_outer.specs.declared.gate.Daemon.TheVariants.{Schedd, Startd, Matchmaker}
-use Rattle.pool_protocol.specs.Protocol.{Protocol}
+use Rattle.pool_view.specs.Protocol.{Protocol}
 use Rattle.pool_state.specs.Readings.{boot_of}
 use Rattle.pool_state.specs.declared.state.PoolState.{PoolState}
 use Rattle.pool_tables.specs.DaemonTables.{DaemonsValue, crashed, daemon_state, with_state}

@@ -13,7 +13,7 @@ use Rattle.pool_rules.specs.Given.{IsGiven}
 use Rattle.pool_rules.specs.Happens.{Happens, Reacts, counts_brought, counts_event}
 use Rattle.pool_outer.specs.declared.gate.Daemon.{Daemon}
 use Rattle.pool_outer.specs.declared.gate.Daemon.TheVariants.{Schedd, Startd, Matchmaker}
-use Rattle.pool_protocol.specs.Protocol.{Protocol}
+use Rattle.pool_view.specs.Protocol.{Protocol}
 use Rattle.pool_rules.specs.Judging.{judged_in}
 use Rattle.pool_rules.specs.Refusals.{IsAdRefusal, IsAdRefusalBy, IsEventRefusal, IsReceiveRefusal, IsRefusal, Refusal, Then, closed_refusal, events_refusal, first_of, receive_refusal}
 use Rattle.pool_state.specs.declared.state.Counts.{Counts}

@@ -3,8 +3,8 @@ use Rattle.std.proofs.Common.{ℕ, max, Bool, List, [], ◌∷◌, ◌++◌, sym
 use Rattle.pool_links.proofs.Going.{after_append, may_append}
 use Rattle.pool_links.proofs.ScheddKept.{time_linked}
 use Rattle.pool_safety.specs.Parts.{parts_of}
-use Rattle.pool_protocol.specs.Protocol.{Protocol}
-use Rattle.pool_protocol.specs.ProtocolMove.{ProtocolMove, PassTime, MayAll, all_steps, protocol_after_all}
+use Rattle.pool_view.specs.Protocol.{Protocol}
+use Rattle.pool_view.specs.ProtocolMove.{ProtocolMove, PassTime, MayAll, all_steps, protocol_after_all}
 use Rattle.pool_state.specs.declared.state.Counts.{Counts}
 use Rattle.pool_state.specs.declared.state.PoolState.{PoolState}
 use Rattle.pool_view.specs.AbstractStep.{AbstractStep, Time}

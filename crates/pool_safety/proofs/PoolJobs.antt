@@ -13,7 +13,7 @@ use Rattle.claim_id.specs.declared.numbers.RunNo.{RunNo}
 use Rattle.pool_links.specs.Linked.{IsFinishedAs}
 use Rattle.pool_safety.specs.Parts.{entry_done_by, finished_in}
 use Rattle.pool_parts.specs.declared.finished.FinishedJob.{FinishedJob}
-use Rattle.pool_protocol.specs.Protocol.{Protocol}
+use Rattle.pool_view.specs.Protocol.{Protocol}
 use Rattle.pool_shown.specs.ShownJobs.{AreShown, done_by, done_entry, entry_by, entry_in, entry_of, run_by, shown_entry, shown_state, state_by, under_by, under_state}
 use Rattle.pool_state.specs.declared.state.PoolState.{PoolState}
 use Rattle.pool_view.proofs.Sameness.{other_job, same_job-same, same_job-true}

@@ -18,7 +18,7 @@ use Rattle.pool_mail.specs.declared.slot_ad.SlotAd.{SlotAd}
 use Rattle.pool_safety.specs.Parts.{awaited_of, finished_in, mail_of, parts_of}
 use Rattle.pool_outer.specs.declared.gate.Daemon.{Daemon}
 use Rattle.pool_outer.specs.declared.gate.Daemon.TheVariants.{Startd}
-use Rattle.pool_protocol.specs.Protocol.{Protocol}
+use Rattle.pool_view.specs.Protocol.{Protocol}
 use Rattle.pool_state.specs.Openings.{AreListed, AreRemoved, CanOpen, IsOpenedBy, is_next_slot, is_removed, is_removed_at, is_removed_by, machinery_of, machines_after, new_startd, opening_startds, startds_from}
 use Rattle.pool_state.specs.Readings.{boot_of}
 use Rattle.pool_state.specs.declared.opening.Opening.{Opening}

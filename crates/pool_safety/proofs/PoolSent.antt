@@ -28,7 +28,7 @@ use Rattle.pool_rules.specs.Happens.{Happens, AreLive}
 use Rattle.pool_rules.specs.Masters.{gives, mails_of_matches}
 use Rattle.pool_safety.specs.Parts.{mail_of, parts_of}
 use Rattle.pool_outer.specs.declared.gate.Daemon.TheVariants.{Schedd}
-use Rattle.pool_protocol.specs.Protocol.{Protocol}
+use Rattle.pool_view.specs.Protocol.{Protocol}
 use Rattle.pool_rules.specs.Judging.{IsLive}
 use Rattle.pool_state.specs.declared.state.PoolState.{PoolState}
 use Rattle.pool_tables.specs.MailLists.{received_once, sent_now, with_received}

@@ -13,8 +13,8 @@ use Rattle.pool_links.specs.Shown.{ShowsPool}
 use Rattle.pool_shown.specs.Slots.{all_slots}
 use Rattle.pool_safety.specs.Parts.{finished_in, parts_of}
 use Rattle.pool_outer.specs.declared.gate.Daemon.TheVariants.{Startd}
-use Rattle.pool_protocol.specs.Protocol.{Protocol}
-use Rattle.pool_protocol.specs.SlotPart.{SlotPart, ShowsParts, part_at}
+use Rattle.pool_view.specs.Protocol.{Protocol}
+use Rattle.pool_view.specs.SlotPart.{SlotPart, ShowsParts, part_at}
 use Rattle.pool_shown.specs.ShownSlots.{ad_on, boot_at, boot_in, mark_on, run_on}
 use Rattle.pool_state.specs.PoolViews.{IsViewOf}
 use Rattle.pool_state.specs.Readings.{boot_of}

@@ -9,8 +9,8 @@ use Rattle.pool_outer.specs.declared.gate.Daemon.TheVariants.{Schedd}
 use Rattle.pool_parts.specs.declared.pending.Pending.{Pending}
 use Rattle.pool_parts.specs.declared.pending.Unfinished.{Unfinished}
 use Rattle.pool_parts.specs.declared.pending.Unfinished.TheVariants.{Submission, Plan}
-use Rattle.pool_protocol.specs.Protocol.{Protocol, pending_steps}
-use Rattle.pool_protocol.specs.ProtocolMove.{Commit, Drop, protocol_after_all}
+use Rattle.pool_view.specs.Protocol.{Protocol, pending_steps}
+use Rattle.pool_view.specs.ProtocolMove.{Commit, Drop, protocol_after_all}
 use Rattle.pool_state.specs.declared.state.PoolState.{PoolState}
 use Rattle.pool_state.specs.Readings.{boot_of}
 use Rattle.pool_tables.specs.DaemonTables.{daemon_state}

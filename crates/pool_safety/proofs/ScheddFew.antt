@@ -18,7 +18,7 @@ use Rattle.pool_parts.specs.declared.finished.FinishedJob.{FinishedJob}
 use Rattle.pool_parts.specs.declared.pending.Pending.{Pending}
 use Rattle.pool_parts.specs.declared.pending.Unfinished.{Unfinished}
 use Rattle.pool_parts.specs.declared.pending.Unfinished.TheVariants.{Submission, Plan}
-use Rattle.pool_protocol.specs.Protocol.{NewJob, Protocol}
+use Rattle.pool_view.specs.Protocol.{NewJob, Protocol}
 use Rattle.pool_state.specs.declared.state.PoolState.{PoolState}
 use Rattle.pool_parts.specs.Submissions.{job_numbered}
 use Rattle.pool_view.specs.AbstractPool.{IsIn}

@@ -6,7 +6,7 @@ use Rattle.pool_parts.specs.declared.event.Event.TheVariants as event
 use Rattle.pool_parts.specs.declared.size.TheConstants.{MAX_BYTES}
 use Rattle.pool_parts.specs.Clusters.{IsNextCluster, is_used}
 use Rattle.pool_parts.specs.declared.clusters.TheConstants.{LAST_CLUSTER}
-use Rattle.pool_protocol.specs.Protocol.{Protocol}
+use Rattle.pool_view.specs.Protocol.{Protocol}
 use Rattle.pool_rules.specs.Refusals.{IsEventRefusal, IsRefusal, closed_refusal, events_refusal, first_of}
 use Rattle.pool_rules.specs.declared.refusal.TheConstants.{MAX_EVENTS}
 use Rattle.pool_state.specs.declared.state.PoolState.{PoolState}

@@ -11,7 +11,7 @@ use Rattle.claim_id.specs.declared.numbers.RunNo.{RunNo}
 use Rattle.ordered_map.proofs.Maps.{lookup-insert_entry}
 use Rattle.pool_parts.specs.declared.finished.FinishedJob.{FinishedJob}
 use Rattle.pool_parts.specs.declared.pending.Unfinished.TheVariants.{Plan}
-use Rattle.pool_protocol.specs.Protocol.{Protocol}
+use Rattle.pool_view.specs.Protocol.{Protocol}
 use Rattle.pool_state.specs.declared.state.PoolState.{PoolState}
 use Rattle.pool_view.specs.AbstractPool.{set}
 use Rattle.pool_view.specs.Numbers.{same_job}

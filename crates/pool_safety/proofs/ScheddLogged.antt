@@ -12,8 +12,8 @@ use Rattle.pool_mail.specs.declared.mail.Mail.{Mail}
 use Rattle.pool_parts.specs.declared.pending.Pending.{Pending}
 use Rattle.pool_parts.specs.declared.pending.Unfinished.{Unfinished}
 use Rattle.pool_parts.specs.declared.pending.Unfinished.TheVariants.{Submission, Plan}
-use Rattle.pool_protocol.specs.Protocol.{NewJob, Protocol}
-use Rattle.pool_protocol.specs.ProtocolMove.{Commit, confirm_move}
+use Rattle.pool_view.specs.Protocol.{NewJob, Protocol}
+use Rattle.pool_view.specs.ProtocolMove.{Commit, confirm_move}
 use Rattle.pool_state.specs.declared.state.PoolState.{PoolState}
 use Rattle.pool_view.specs.AbstractPool.{IsIn}
 use Rattle.pool_view.specs.AbstractStep.{AbstractStep}

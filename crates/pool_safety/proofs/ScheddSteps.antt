@@ -10,8 +10,8 @@ use Rattle.pool_links.specs.ScheddEvents.{late_order, moves_of_schedd_mail}
 use Rattle.pool_mail.specs.declared.mail.Mail.{Mail}
 use Rattle.pool_mail.specs.declared.mail.Mail.TheVariants as mail
 use Rattle.pool_parts.specs.Plans.{ordered_job}
-use Rattle.pool_protocol.specs.Protocol.{Change, NewJob, Protocol, change_steps, pending_steps, queue_step}
-use Rattle.pool_protocol.specs.ProtocolMove.{ProtocolMove, Commit, TakeOrder, all_steps, confirm_move, protocol_after}
+use Rattle.pool_view.specs.Protocol.{Change, NewJob, Protocol, change_steps, pending_steps, queue_step}
+use Rattle.pool_view.specs.ProtocolMove.{ProtocolMove, Commit, TakeOrder, all_steps, confirm_move, protocol_after}
 use Rattle.pool_view.specs.AbstractPool.{IsIn}
 use Rattle.pool_view.specs.AbstractStep.{AbstractStep, Acknowledge, Order}
 use Rattle.pool_view.specs.declared.job.Entry.{Entry}

@@ -5,9 +5,9 @@ use Rattle.ad_tree.specs.Ad.{Attributes}
 use Rattle.claim_id.specs.declared.numbers.JobId.{JobId}
 use Rattle.pool_parts.specs.Clusters.{has_cluster, is_of_cluster, is_used}
 use Rattle.pool_parts.specs.declared.finished.FinishedJob.{FinishedJob}
-use Rattle.pool_protocol.specs.Protocol.{NewJob, Protocol}
-use Rattle.pool_protocol.specs.Protocol.{Submission as submitted}
-use Rattle.pool_protocol.specs.ProtocolMove.{Pend}
+use Rattle.pool_view.specs.Protocol.{NewJob, Protocol}
+use Rattle.pool_view.specs.Protocol.{Submission as submitted}
+use Rattle.pool_view.specs.ProtocolMove.{Pend}
 use Rattle.pool_state.specs.declared.state.PoolState.{PoolState}
 use Rattle.pool_parts.specs.Submissions.{ad_ops, attribute_op, header_ops, job_numbered, jobs_ops, next_cluster_op, submission_ops}
 use Rattle.pool_parts.specs.declared.submission.TheConstants.{KIND, OTHER}

@@ -7,8 +7,8 @@ use Rattle.pool_parts.specs.declared.event.Event.TheVariants as event
 use Rattle.pool_mail.specs.Mails.{receivers_of}
 use Rattle.pool_mail.specs.declared.end.Ending.{Ending}
 use Rattle.pool_outer.specs.declared.gate.Daemon.TheVariants.{Startd}
-use Rattle.pool_protocol.specs.Protocol.{Protocol}
-use Rattle.pool_protocol.specs.ProtocolMove.{PassTime, protocol_after}
+use Rattle.pool_view.specs.Protocol.{Protocol}
+use Rattle.pool_view.specs.ProtocolMove.{PassTime, protocol_after}
 use Rattle.pool_rules.specs.Refusals.{IsAdRefusal, IsEventRefusal, IsReturnRefusal, busy_refusal, receive_refusal}
 use Rattle.pool_state.specs.declared.state.PoolState.{PoolState}
 use Rattle.pool_state.specs.Readings.{boot_of}

@@ -6,8 +6,8 @@ use Rattle.pool_parts.specs.declared.answer.Answer.TheVariants as answer
 use Rattle.pool_parts.specs.declared.answer.Stepped.{Stepped}
 use Rattle.pool_parts.specs.declared.event.Event.TheVariants as event
 use Rattle.pool_outer.specs.declared.gate.Daemon.TheVariants.{Startd}
-use Rattle.pool_protocol.specs.Protocol.{Protocol}
-use Rattle.pool_protocol.specs.ProtocolMove.{ProtocolMove, PassTime, protocol_after_all}
+use Rattle.pool_view.specs.Protocol.{Protocol}
+use Rattle.pool_view.specs.ProtocolMove.{ProtocolMove, PassTime, protocol_after_all}
 use Rattle.pool_rules.specs.Refusals.{IsEventRefusal}
 use Rattle.pool_state.specs.declared.state.PoolState.{PoolState}
 use Rattle.pool_view.specs.AbstractPool.{AbstractPool, SameView}

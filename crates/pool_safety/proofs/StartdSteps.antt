@@ -16,7 +16,7 @@ use Rattle.pool_mail.specs.declared.end.How.{How}
 use Rattle.pool_mail.specs.declared.mail.Mail.{Mail}
 use Rattle.pool_mail.specs.declared.mail.Mail.TheVariants as mail
 use Rattle.pool_mail.specs.declared.settings.Settings.{Settings}
-use Rattle.pool_protocol.specs.ProtocolMove.{ProtocolMove, EndClaim, ExtendRun, HoldClaim, Reboot, StopRun, protocol_after}
+use Rattle.pool_view.specs.ProtocolMove.{ProtocolMove, EndClaim, ExtendRun, HoldClaim, Reboot, StopRun, protocol_after}
 use Rattle.pool_view.specs.AbstractPool.{IsIn, Marks}
 use Rattle.pool_view.specs.AbstractStep.{AbstractStep, Extend, Mark, Start, Stop}
 use Rattle.pool_view.specs.declared.run.Run.{Run}

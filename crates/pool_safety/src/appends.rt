@@ -10,7 +10,7 @@ ghost use Rattle.pool_parts.specs.declared.event.Event.TheVariants.{Submit};
 ghost use Rattle.pool_rules.specs.Happens.{Reacts};
 ghost use Rattle.pool_parts.specs.declared.pending.Pending.{Pending};
 ghost use Rattle.pool_parts.specs.declared.pending.Unfinished.TheVariants.{Plan};
-ghost use Rattle.pool_protocol.specs.Protocol.{Protocol};
+ghost use Rattle.pool_view.specs.Protocol.{Protocol};
 ghost use Rattle.pool_rules.specs.Refusals.{IsRefusal};
 ghost use Rattle.pool_state.specs.declared.state.PoolState.{PoolState};
 ghost use Rattle.queue_tx.specs.Queues.{KeyedAds, queue_after};

@@ -4,7 +4,7 @@ ghost use Rattle.std.specs.Prelude.{◌≡◌, ℕ, ◌+◌, List, None};
 ghost use Rattle.pool_parts.specs.declared.answer.Stepped.{Stepped};
 ghost use Rattle.pool_parts.specs.declared.event.Event.{Event};
 ghost use Rattle.pool_rules.specs.Happens.{Reacts};
-ghost use Rattle.pool_protocol.specs.Protocol.{Protocol};
+ghost use Rattle.pool_view.specs.Protocol.{Protocol};
 ghost use Rattle.pool_rules.specs.Refusals.{IsRefusal};
 ghost use Rattle.pool_state.specs.Openings.{CanOpen, IsJobCount, IsOpenedBy};
 ghost use Rattle.pool_state.specs.declared.opening.Opening.{Opening};

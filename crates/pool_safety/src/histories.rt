@@ -15,7 +15,7 @@ ghost use Rattle.pool_rules.specs.Logging.{cluster_jobs};
 ghost use Rattle.pool_safety.specs.Parts.{finished_in, parts_of};
 ghost use Rattle.pool_parts.specs.declared.pending.Pending.{Pending};
 ghost use Rattle.pool_parts.specs.declared.pending.Unfinished.TheVariants.{Submission};
-ghost use Rattle.pool_protocol.specs.Protocol.{Protocol};
+ghost use Rattle.pool_view.specs.Protocol.{Protocol};
 ghost use Rattle.pool_state.specs.Openings.{IsOpenedBy};
 ghost use Rattle.pool_state.specs.PoolViews.{IsViewOf};
 ghost use Rattle.pool_state.specs.declared.opening.Opening.{Opening};

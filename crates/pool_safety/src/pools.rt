@@ -17,7 +17,7 @@ ghost use Rattle.pool_rules.specs.Happens.{Happens, Reacts};
 ghost use Rattle.pool_safety.specs.Parts.{parts_of};
 ghost use Rattle.pool_outer.specs.declared.gate.Daemon.{Daemon};
 ghost use Rattle.pool_outer.specs.declared.gate.Daemon.TheVariants.{Matchmaker};
-ghost use Rattle.pool_protocol.specs.Protocol.{Protocol};
+ghost use Rattle.pool_view.specs.Protocol.{Protocol};
 ghost use Rattle.pool_rules.specs.Refusals.{IsRefusal};
 ghost use Rattle.pool_state.specs.Openings.{CanOpen, IsOpenedBy};
 ghost use Rattle.pool_state.specs.PoolViews.{IsViewOf};

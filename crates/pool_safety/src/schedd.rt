@@ -12,7 +12,7 @@ ghost use Rattle.pool_mail.specs.declared.end.Ending.{Ending};
 ghost use Rattle.pool_rules.specs.Given.{IsGiven};
 ghost use Rattle.pool_rules.specs.Happens.{Happens, Reacts};
 ghost use Rattle.pool_outer.specs.declared.gate.Daemon.TheVariants.{Schedd};
-ghost use Rattle.pool_protocol.specs.Protocol.{Protocol};
+ghost use Rattle.pool_view.specs.Protocol.{Protocol};
 ghost use Rattle.pool_rules.specs.Refusals.{IsEventRefusal, IsRefusal};
 ghost use Rattle.pool_state.specs.Openings.{CanOpen, IsOpenedBy};
 ghost use Rattle.pool_state.specs.declared.opening.Opening.{Opening};

@@ -11,7 +11,7 @@ ghost use Rattle.pool_mail.specs.declared.end.Ending.{Ending};
 ghost use Rattle.pool_rules.specs.Happens.{Happens};
 ghost use Rattle.pool_safety.specs.Parts.{parts_of};
 ghost use Rattle.pool_outer.specs.declared.gate.Daemon.TheVariants.{Startd};
-ghost use Rattle.pool_protocol.specs.Protocol.{Protocol};
+ghost use Rattle.pool_view.specs.Protocol.{Protocol};
 ghost use Rattle.pool_rules.specs.Refusals.{IsEventRefusal};
 ghost use Rattle.pool_state.specs.declared.state.PoolState.{PoolState};
 ghost use Rattle.pool_view.specs.AbstractPool.{AbstractPool};

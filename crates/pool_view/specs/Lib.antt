@@ -1,6 +1,11 @@
-pub mod Numbers
-pub mod Ads
 pub mod AbstractPool
 pub mod AbstractStep
+pub mod Ads
+pub mod Course
+pub mod Facts
+pub mod Numbers
+pub mod Protocol
+pub mod ProtocolMove
 pub mod Safe
+pub mod SlotPart
 pub mod Views

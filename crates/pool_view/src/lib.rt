@@ -1,13 +1,19 @@
 //! The abstract pool: what a pool promises of its jobs and runs, without messages, logs or pending
 //! work; its steps; and when it is safe. `View` is one as data.
+//!
+//! The protocol of a pool: what its daemons tell one another, and why that keeps the pool safe.
+//! There is nothing here but laws.
 #![tactic(auto)]
 
 mod job;
 pub mod laws;
 mod mark;
+pub mod protocol_laws;
+pub mod rows;
 mod run;
 mod safe;
 mod same;
+pub mod slots;
 mod view;
 
 pub use job::{Entry, JobEntry, JobEntryList, JobIdList, Outcome, State};

@@ -10,8 +10,8 @@ use Rattle.pool_mail.specs.declared.end.How.{How}
 use Rattle.pool_mail.specs.declared.mail.Mail.{Mail}
 use Rattle.pool_mail.specs.declared.mail.Mail.TheVariants as mail
 use Rattle.pool_mail.specs.declared.why.Why.{Why}
-use Rattle.pool_protocol.specs.Protocol.{Protocol}
-use Rattle.pool_protocol.specs.ProtocolMove.{TakeOrder, MayLetGo, MayPend, MayAll, protocol_after}
+use Rattle.pool_view.specs.Protocol.{Protocol}
+use Rattle.pool_view.specs.ProtocolMove.{TakeOrder, MayLetGo, MayPend, MayAll, protocol_after}
 use Rattle.pool_view.specs.AbstractPool.{IsIn}
 use Rattle.pool_view.specs.AbstractStep.{IsWaiting}
 use Rattle.pool_view.specs.declared.job.State.{State}

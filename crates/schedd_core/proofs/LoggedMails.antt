@@ -7,9 +7,9 @@ use Rattle.claim_id.specs.declared.numbers.JobId.{JobId}
 use Rattle.claim_id.specs.declared.numbers.RunNo.{RunNo}
 use Rattle.pool_mail.specs.Ads.{request_ad}
 use Rattle.pool_mail.specs.declared.mail.Mail.{Mail}
-use Rattle.pool_protocol.specs.Facts.{Facts}
-use Rattle.pool_protocol.specs.Protocol.{Lease, Protocol}
-use Rattle.pool_protocol.specs.ProtocolMove.{Commit, MayAll, protocol_after, protocol_after_all}
+use Rattle.pool_view.specs.Facts.{Facts}
+use Rattle.pool_view.specs.Protocol.{Lease, Protocol}
+use Rattle.pool_view.specs.ProtocolMove.{Commit, MayAll, protocol_after, protocol_after_all}
 use Rattle.pool_view.specs.AbstractPool.{IsIn}
 use Rattle.pool_view.specs.Ads.{core_of}
 use Rattle.pool_view.proofs.Cores.{core_of_request}
@@ -212,7 +212,7 @@ module _ (p : Protocol) (q new : KeyedAds) (v : ScheddValue) (pl : JobPlan) (par
       subst (λ a. IsSomeAnd a (λ ad. (is_left job (after_plan pl v).left ≡ false) × ((end : ℕ) × NamesRun ad claim number end))) (sym at) (not_left, (until, run_granted its.0 claim number until fitting.2))
 
   -- what the leases of the plan want, and what they leave
-  record Sends (moves : Rattle.std.specs.Prelude.List Rattle.pool_protocol.specs.ProtocolMove.ProtocolMove) : Type 0 where
+  record Sends (moves : Rattle.std.specs.Prelude.List Rattle.pool_view.specs.ProtocolMove.ProtocolMove) : Type 0 where
     pub may : MayAll (protocol_after p Commit) moves
     pub leaves : IsPart (protocol_after_all (protocol_after p Commit) moves) new (after_plan pl v)
 

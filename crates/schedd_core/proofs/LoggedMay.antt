@@ -4,9 +4,9 @@ use Rattle.std.specs.Prelude.{Ok}
 use Rattle.ad_rows.specs.Rows.{integer_literal}
 use Rattle.ad_tree.specs.Ad.{Attributes}
 use Rattle.claim_id.specs.declared.numbers.JobId.{JobId}
-use Rattle.pool_protocol.specs.Facts.{Facts, CanBeMade}
-use Rattle.pool_protocol.specs.Protocol.{Change, Hidden, Submission, OfJob, Removal, Protocol, change_steps, pending_steps, view_after_all}
-use Rattle.pool_protocol.specs.ProtocolMove.{Commit, removals_with, protocol_after}
+use Rattle.pool_view.specs.Facts.{Facts, CanBeMade}
+use Rattle.pool_view.specs.Protocol.{Change, Hidden, Submission, OfJob, Removal, Protocol, change_steps, pending_steps, view_after_all}
+use Rattle.pool_view.specs.ProtocolMove.{Commit, removals_with, protocol_after}
 use Rattle.pool_view.specs.AbstractPool.{AbstractPool, IsIn}
 use Rattle.pool_view.specs.Numbers.{same_job}
 use Rattle.pool_view.specs.declared.job.State.{State}

@@ -4,7 +4,7 @@ use Rattle.std.specs.Prelude.{Ok, option_map}
 use Rattle.ad_tree.specs.Ad.{Attributes}
 use Rattle.claim_id.specs.declared.numbers.ClaimId.{ClaimId}
 use Rattle.claim_id.specs.declared.numbers.JobId.{JobId}
-use Rattle.pool_protocol.specs.Protocol.{change_steps, view_after_all}
+use Rattle.pool_view.specs.Protocol.{change_steps, view_after_all}
 use Rattle.pool_view.specs.AbstractPool.{AbstractPool}
 use Rattle.pool_view.specs.AbstractStep.{entry_with_state, with_state, with_lease_end}
 use Rattle.pool_view.specs.Ads.{core_of}

@@ -11,8 +11,8 @@ use Rattle.claim_id.specs.declared.numbers.RunNo.{RunNo}
 use Rattle.claim_id.proofs.OneText.{one_claim}
 use Rattle.pool_mail.specs.declared.end.How.{How}
 use Rattle.pool_mail.specs.declared.end.How.TheVariants as how
-use Rattle.pool_protocol.specs.Protocol.{Protocol}
-use Rattle.pool_protocol.specs.ProtocolMove.{IsSaidOver, MayLetGo, MayPend, MayAll}
+use Rattle.pool_view.specs.Protocol.{Protocol}
+use Rattle.pool_view.specs.ProtocolMove.{IsSaidOver, MayLetGo, MayPend, MayAll}
 use Rattle.pool_view.specs.AbstractPool.{IsIn, Stands}
 use Rattle.pool_view.specs.AbstractStep.{IsWaiting}
 use Rattle.pool_view.specs.Ads.{core_of}

@@ -7,8 +7,8 @@ use Rattle.pool_mail.specs.declared.end.How.{How}
 use Rattle.pool_mail.specs.declared.end.How.TheVariants as how
 use Rattle.pool_mail.specs.declared.mail.Mail.{Mail}
 use Rattle.pool_mail.specs.declared.mail.Mail.TheVariants as mail
-use Rattle.pool_protocol.specs.Protocol.{Change, Hidden, OfJob, Removal}
-use Rattle.pool_protocol.specs.ProtocolMove.{ProtocolMove, Pend, Commit, TakeOrder, SendLease}
+use Rattle.pool_view.specs.Protocol.{Change, Hidden, OfJob, Removal}
+use Rattle.pool_view.specs.ProtocolMove.{ProtocolMove, Pend, Commit, TakeOrder, SendLease}
 use Rattle.pool_view.specs.AbstractStep.{Grant, Free, Finish, Hold, Release, Lengthen}
 use Rattle.pool_view.specs.Ads.{core_of}
 use Rattle.pool_view.specs.declared.job.Entry.{Entry}

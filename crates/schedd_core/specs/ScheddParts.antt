@@ -8,7 +8,7 @@ use Rattle.claim_id.specs.Texts.{IsClaim}
 use Rattle.pool_mail.specs.declared.mail.Mail.{Mail}
 use Rattle.pool_mail.specs.declared.mail.Mail.TheVariants as mail
 use Rattle.pool_mail.specs.Ads.{request_ad}
-use Rattle.pool_protocol.specs.Protocol.{Lease, Protocol}
+use Rattle.pool_view.specs.Protocol.{Lease, Protocol}
 use Rattle.pool_view.specs.AbstractPool.{IsIn}
 use Rattle.pool_view.specs.Ads.{core_of}
 use Rattle.queue_tx.specs.declared.key.Key.{Key}

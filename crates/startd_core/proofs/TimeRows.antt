@@ -3,9 +3,9 @@ use Rattle.std.proofs.Common.{◌≡◌, inl, inr, ℕ, ◌<◌, [], ◌∷◌, 
 use Rattle.ad_tree.specs.Ad.{Attributes}
 use Rattle.claim_id.specs.declared.numbers.SlotId.{SlotId}
 use Rattle.pool_mail.specs.declared.settings.Settings.{Settings}
-use Rattle.pool_protocol.specs.Protocol.{Protocol}
-use Rattle.pool_protocol.specs.ProtocolMove.{MayAll, Reboot, StopRun}
-use Rattle.pool_protocol.specs.SlotPart.{IsPart, SlotPart, own_part_after, part_after, part_after_all}
+use Rattle.pool_view.specs.Protocol.{Protocol}
+use Rattle.pool_view.specs.ProtocolMove.{MayAll, Reboot, StopRun}
+use Rattle.pool_view.specs.SlotPart.{IsPart, SlotPart, own_part_after, part_after, part_after_all}
 use Rattle.pool_view.specs.Safe.{Safe}
 use Rattle.pool_view.proofs.Sameness.{same_slot-same}
 use Rattle.claim_id.specs.declared.pair.Cue.{Cue}

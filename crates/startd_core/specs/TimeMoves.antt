@@ -1,6 +1,6 @@
 -- What a tick is to a slot: the cue that each row brings, and the moves of the protocol that it is.
 use Rattle.std.specs.Prelude.{List, [], Option, Some, None}
-use Rattle.pool_protocol.specs.ProtocolMove.{ProtocolMove}
+use Rattle.pool_view.specs.ProtocolMove.{ProtocolMove}
 use Rattle.claim_id.specs.declared.pair.Cue.{Cue}
 use Rattle.claim_id.specs.declared.pair.Cue.TheVariants as cue
 use Rattle.startd_slot.specs.declared.slot.SlotState.{SlotState}

@@ -8,12 +8,12 @@ use Rattle.claim_id.specs.declared.numbers.ClaimNo.{ClaimNo}
 use Rattle.claim_id.specs.declared.numbers.RunNo.{RunNo}
 use Rattle.claim_id.specs.declared.numbers.SlotId.{SlotId}
 use Rattle.pool_mail.specs.declared.end.How.{How}
-use Rattle.pool_protocol.specs.Facts.{Facts}
-use Rattle.pool_protocol.specs.Protocol.{Lease, Protocol, Holds, HoldsBefore, IsHeldBefore, IsHeldIn}
-use Rattle.pool_protocol.specs.ProtocolMove.{EndClaim, ExtendRun, HoldClaim, Reboot, SayGone, StartRun, StopRun, HasNoRun, IsFreeFor, MayAll}
-use Rattle.pool_protocol.specs.SlotPart.{IsPart}
-use Rattle.pool_protocol.proofs.Parts.{mark_known, free_known, not_run_known}
-use Rattle.pool_protocol.proofs.SeveralMoves.{hand_over, burn_new, burn_old, end_run, end_run_hand_over, reboot_run}
+use Rattle.pool_view.specs.Facts.{Facts}
+use Rattle.pool_view.specs.Protocol.{Lease, Protocol, Holds, HoldsBefore, IsHeldBefore, IsHeldIn}
+use Rattle.pool_view.specs.ProtocolMove.{EndClaim, ExtendRun, HoldClaim, Reboot, SayGone, StartRun, StopRun, HasNoRun, IsFreeFor, MayAll}
+use Rattle.pool_view.specs.SlotPart.{IsPart}
+use Rattle.pool_view.proofs.Parts.{mark_known, free_known, not_run_known}
+use Rattle.pool_view.proofs.SeveralMoves.{hand_over, burn_new, burn_old, end_run, end_run_hand_over, reboot_run}
 use Rattle.pool_view.specs.AbstractPool.{IsIn, IsSpentAt, IsUsed}
 use Rattle.pool_view.specs.Ads.{core_of}
 use Rattle.pool_view.specs.Safe.{Safe}

@@ -11,10 +11,10 @@ use Rattle.pool_mail.specs.Ads.{owner_of}
 use Rattle.pool_mail.specs.declared.end.Ending.{Ending}
 use Rattle.pool_mail.specs.declared.mail.Mail.{Mail}
 use Rattle.pool_mail.specs.declared.mail.Mail.TheVariants.{Update, Matched, Ask, Granted, Denied, Activate, Alive, Seen, Stop, Release, Gone, Ended, Remove, Hold, Resume}
-use Rattle.pool_protocol.specs.Facts.{Facts}
-use Rattle.pool_protocol.specs.Protocol.{Protocol}
-use Rattle.pool_protocol.specs.ProtocolMove.{MayAll}
-use Rattle.pool_protocol.specs.SlotPart.{IsPart, part_after_all}
+use Rattle.pool_view.specs.Facts.{Facts}
+use Rattle.pool_view.specs.Protocol.{Protocol}
+use Rattle.pool_view.specs.ProtocolMove.{MayAll}
+use Rattle.pool_view.specs.SlotPart.{IsPart, part_after_all}
 use Rattle.pool_view.specs.Safe.{Safe}
 use Rattle.claim_id.specs.declared.pair.Cue.TheVariants as cue
 use Rattle.claim_id.specs.SlotTable.{next_of}

@@ -9,8 +9,8 @@ use Rattle.claim_id.specs.declared.numbers.SlotId.{SlotId}
 use Rattle.pool_mail.specs.declared.end.How.{How}
 use Rattle.pool_mail.specs.declared.mail.Mail.{Mail}
 use Rattle.pool_outer.specs.declared.spawner.Launch.{Launch}
-use Rattle.pool_protocol.specs.ProtocolMove.{ProtocolMove, EndClaim, ExtendRun, HoldClaim, StartRun, StopRun, UseNumber}
-use Rattle.pool_protocol.specs.SlotPart.{SlotPart, is_of_slot, own_part_after, part_after, part_after_all}
+use Rattle.pool_view.specs.ProtocolMove.{ProtocolMove, EndClaim, ExtendRun, HoldClaim, StartRun, StopRun, UseNumber}
+use Rattle.pool_view.specs.SlotPart.{SlotPart, is_of_slot, own_part_after, part_after, part_after_all}
 use Rattle.pool_view.specs.declared.run.Run.{Run}
 use Rattle.pool_view.specs.Numbers.{same_slot}
 use Rattle.pool_view.proofs.Sameness.{same_slot-same}

@@ -10,9 +10,9 @@ use Rattle.pool_mail.specs.declared.end.Ending.{Ending}
 use Rattle.pool_mail.specs.declared.end.How.{How}
 use Rattle.pool_mail.specs.declared.mail.Mail.{Mail}
 use Rattle.pool_mail.specs.declared.mail.Mail.TheVariants.{Ask, Activate, Alive, Stop, Release}
-use Rattle.pool_protocol.specs.Protocol.{Lease, Protocol}
-use Rattle.pool_protocol.specs.ProtocolMove.{ProtocolMove, EndClaim, ExtendRun, HoldClaim, Reboot, SayGone, StartRun, StopRun, UseNumber}
-use Rattle.pool_protocol.specs.SlotPart.{SlotPart}
+use Rattle.pool_view.specs.Protocol.{Lease, Protocol}
+use Rattle.pool_view.specs.ProtocolMove.{ProtocolMove, EndClaim, ExtendRun, HoldClaim, Reboot, SayGone, StartRun, StopRun, UseNumber}
+use Rattle.pool_view.specs.SlotPart.{SlotPart}
 use Rattle.pool_view.specs.AbstractPool.{IsIn}
 use Rattle.pool_view.specs.Ads.{core_of}
 use Rattle.pool_view.specs.declared.mark.HeldClaim.{HeldClaim}

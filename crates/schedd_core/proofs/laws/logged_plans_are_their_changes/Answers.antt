@@ -1,5 +1,5 @@
 use Rattle.std.proofs.Common.{refl, sym, subst}
-use Rattle.pool_protocol.specs.Protocol.{change_steps, view_after_all}
+use Rattle.pool_view.specs.Protocol.{change_steps, view_after_all}
 use Rattle.schedd_core.specs.JobStates.{ShowsJobs}
 use Rattle.schedd_core.specs.PlanChanges.{change_of}
 use Rattle.schedd_core.proofs.LoggedMails.{logged_may, logged_part, mails_leased}
