@@ -1,10 +1,10 @@
 ghost use Rattle.std.specs.Prelude.{◌≡◌, ◌<◌};
-ghost use Rattle.pie_spin.specs.Snapshots.{IsSnapshot};
+ghost use Rattle.matchmaker.specs.Snapshots.{IsSnapshot};
 
 use ad_eval::Steps;
 use ad_value::Memory;
+use matchmaker::Snapshot;
 use negotiate::cycle;
-use pie_spin::Snapshot;
 use pool_mail::MatchList;
 use std::alloc::Global;
 use std::marker::Brand;

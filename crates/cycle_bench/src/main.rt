@@ -15,7 +15,7 @@ use crate::slots::offers;
 use ad_tree::Expr;
 use ad_value::Value;
 use anyhow::{Context, Result, bail};
-use pie_spin::Snapshot;
+use matchmaker::Snapshot;
 use std::env;
 use std::time::Instant;
 

@@ -4,7 +4,7 @@ use ad_tree::{Ad, Expr};
 use ad_value::{Copied, Text, Value};
 use anyhow::Result;
 use claim_id::JobId;
-use pie_spin::{Submitter, SubmitterList};
+use matchmaker::{Submitter, SubmitterList};
 use pool_mail::{Request, RequestList};
 use std::alloc::Global;
 

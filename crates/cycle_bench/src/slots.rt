@@ -4,7 +4,7 @@ use ad_tree::{Ad, Expr};
 use ad_value::{Copied, Text, Value};
 use anyhow::Result;
 use claim_id::{ClaimId, ClaimNo, SlotId};
-use pie_spin::{Offer, OfferList};
+use matchmaker::{Offer, OfferList};
 use std::alloc::Global;
 
 // An ad as that of a configured slot.

@@ -1,9 +1,9 @@
 ghost use Rattle.std.specs.Prelude.{◌≤◌, IfOk};
 
 use cases::{Case, CaseError};
+use matchmaker::{Accountant, MAX_FACTOR, MAX_SLOTS, PriorityError};
 use std::alloc::{AllocError, Global};
 use std::fmt::Write;
-use user_priority::{Accountant, MAX_FACTOR, MAX_SLOTS, PriorityError};
 
 /// Accounts without users, at the tick of a case.
 pub(crate) fn open_accounts(alloc: Global, case: Case<'_>) -> Result<Accountant, CaseError> {

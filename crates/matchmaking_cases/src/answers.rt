@@ -4,10 +4,8 @@ use crate::collecting::{answer_collector, expire_ads, open_collector};
 use crate::negotiating::answer_cycle;
 use crate::snapshots::{add_offer, add_request, add_submitter, empty_snapshot, open_snapshot};
 use cases::{Case, CaseError, read_cases};
-use collector::Collector;
-use pie_spin::Snapshot;
+use matchmaker::{Accountant, Collector, Snapshot};
 use std::alloc::Global;
-use user_priority::Accountant;
 
 // What the cases speak of: one of each at a time.
 struct State {

@@ -3,7 +3,7 @@ use ad_tree::{Ad, AdList};
 use ad_value::{Copied, Memory, Seq};
 use auto_cluster::{Clusters, significant};
 use cases::{Case, CaseError, escape};
-use pie_spin::Snapshot;
+use matchmaker::Snapshot;
 use pool_mail::Request;
 use std::alloc::Global;
 use std::fmt::Write;

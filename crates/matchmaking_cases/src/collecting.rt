@@ -3,7 +3,7 @@ use ad_tree::{Ad, Expr, SetError};
 use ad_value::{Memory, Text, Value};
 use cases::{Case, CaseError, escape};
 use claim_id::{Pair, SlotId};
-use collector::{Collector, CollectorError};
+use matchmaker::{Collector, CollectorError};
 use pool_mail::SlotAd;
 use std::alloc::{AllocError, Global};
 use std::fmt::Write;

@@ -1,12 +1,12 @@
 ghost use Rattle.std.specs.Prelude.{◌≡◌, ◌<◌};
-ghost use Rattle.pie_spin.specs.Snapshots.{IsSnapshot};
+ghost use Rattle.matchmaker.specs.Snapshots.{IsSnapshot};
 
 use crate::readers::bad_form;
 use ad_eval::Steps;
 use ad_value::Memory;
 use cases::{Case, CaseError};
+use matchmaker::{Snapshot, plain_cycle};
 use negotiate::cycle;
-use pie_spin::{Snapshot, plain_cycle};
 use pool_mail::{Match, MatchList};
 use std::alloc::Global;
 use std::fmt::Write;

@@ -2,7 +2,7 @@ use crate::readers::{ad_of, bad_form, claim_of, expr_of, job_of, number_of, slot
 use ad_tree::Expr;
 use ad_value::{Memory, Seq, Value};
 use cases::{Case, CaseError};
-use pie_spin::{Holder, Offer, Snapshot, Submitter};
+use matchmaker::{Holder, Offer, Snapshot, Submitter};
 use pool_mail::Request;
 use std::alloc::Global;
 use std::mem::replace;

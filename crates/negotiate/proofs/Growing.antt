@@ -3,15 +3,15 @@ use Rattle.std.proofs.Common.{◌≡◌, ℕ, ◌≤◌, List, [], ◌∷◌, �
 use Rattle.std.specs.List.{list_any}
 use Rattle.std.proofs.lemmas.List.Sums.{sum_by-append}
 use Rattle.std.proofs.lemmas.Bool.{ltb-false, le-ltb, or_left, and_cases}
-use Rattle.pie_spin.specs.Offers.{fits, is_offered}
-use Rattle.pie_spin.specs.Cycle.{is_unmatched, may_choose, given, is_under, is_below_ceiling, same_slot}
+use Rattle.matchmaker.specs.Offers.{fits, is_offered}
+use Rattle.matchmaker.specs.Cycle.{is_unmatched, may_choose, given, is_under, is_below_ceiling, same_slot}
 use Rattle.negotiate.specs.Laws.{is_matched, same_job}
 use Rattle.std.specs.Str.{bytes_eq}
 use Rattle.pool_mail.specs.declared.matching.Request.{Request}
-use Rattle.pie_spin.specs.declared.snapshot.Offer.{Offer}
-use Rattle.pie_spin.specs.declared.snapshot.Snapshot.{Snapshot}
-use Rattle.pie_spin.specs.declared.course.Account.{Account}
-use Rattle.pie_spin.specs.declared.course.Made.{Made}
+use Rattle.matchmaker.specs.declared.snapshot.Offer.{Offer}
+use Rattle.matchmaker.specs.declared.snapshot.Snapshot.{Snapshot}
+use Rattle.matchmaker.specs.declared.course.Account.{Account}
+use Rattle.matchmaker.specs.declared.course.Made.{Made}
 
 pub record Grows (made later : List Made) : Type 0 where
   pub matched : (u : Account) (r : Request) → is_matched u r made ≡ true → is_matched u r later ≡ true

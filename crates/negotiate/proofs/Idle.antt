@@ -4,16 +4,16 @@ use Rattle.std.specs.Prelude.{◌==◌, ◌⊎◌}
 use Rattle.std.specs.List.{filter, count_by}
 use Rattle.std.proofs.lemmas.List.Sums.{sum_by-cons}
 use Rattle.std.proofs.lemmas.Bool.{cases_Bool, false≢true, and_cases, eqb-true, or_cases}
-use Rattle.pie_spin.specs.Cycle.{Bidder, Course, is_unmatched, may_choose, is_below_ceiling, turns, has_left, takes_part, unmatched, spin_of, players, is_over, spin, spins, requests_left, last_course, cycle_of}
+use Rattle.matchmaker.specs.Cycle.{Bidder, Course, is_unmatched, may_choose, is_below_ceiling, turns, has_left, takes_part, unmatched, spin_of, players, is_over, spin, spins, requests_left, last_course, cycle_of}
 use Rattle.negotiate.specs.Laws.{is_matched}
 use Rattle.negotiate.proofs.Members.{IsIn}
 use Rattle.negotiate.proofs.Growing.{Grows, Grows-refl, Grows-trans, stays_full}
 use Rattle.negotiate.proofs.Settling.{Settled, HasNone, Turned, turned, stays_settled}
-use Rattle.pie_spin.proofs.Ending.{most_of, first_turn, turns_end, turns_more, spins_stop, spins_more, enough}
+use Rattle.matchmaker.proofs.Ending.{most_of, first_turn, turns_end, turns_more, spins_stop, spins_more, enough}
 use Rattle.pool_mail.specs.declared.matching.Request.{Request}
-use Rattle.pie_spin.specs.declared.snapshot.Snapshot.{Snapshot}
-use Rattle.pie_spin.specs.declared.course.Account.{Account}
-use Rattle.pie_spin.specs.declared.course.Made.{Made}
+use Rattle.matchmaker.specs.declared.snapshot.Snapshot.{Snapshot}
+use Rattle.matchmaker.specs.declared.course.Account.{Account}
+use Rattle.matchmaker.specs.declared.course.Made.{Made}
 
 pub record LeftIn (u : Account) (r : Request) (bs : List Bidder) : Type 0 where
   pub bidder : Bidder

@@ -3,13 +3,13 @@ use Rattle.std.proofs.Common.{◌≡◌, ℕ, ◌+◌, ◌<◌, ◌≤◌, List,
 use Rattle.std.specs.Prelude.{if◌then◌else◌, option_map}
 use Rattle.std.specs.List.{filter}
 use Rattle.std.proofs.lemmas.List.{map-append, drop_more, drop_all, take_all}
-use Rattle.pie_spin.specs.Cycle.{Ranked, ranked_for}
+use Rattle.matchmaker.specs.Cycle.{Ranked, ranked_for}
 use Rattle.negotiate.specs.Grouped.{fits_now, list_for, ranked, all_ranked, first_kept, best_kept, better_kept}
 use Rattle.negotiate.proofs.KeptLists.{list_yes, list_no, list_none, one, last}
 use Rattle.pool_mail.specs.declared.matching.Request.{Request}
 use Rattle.negotiate.specs.declared.grouping.Kept.{Kept}
-use Rattle.pie_spin.specs.declared.snapshot.Offer.{Offer}
-use Rattle.pie_spin.specs.declared.course.Made.{Made}
+use Rattle.matchmaker.specs.declared.snapshot.Offer.{Offer}
+use Rattle.matchmaker.specs.declared.course.Made.{Made}
 
 abbrev Tells : ℕ → List Made → Request → Offer → Option Kept → Type 0
 Tells now made r slot o = option_map ranked o ≡ (if fits_now now made r slot then Some (ranked_for now r slot) else None)

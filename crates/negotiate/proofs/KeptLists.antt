@@ -4,17 +4,17 @@ use Rattle.std.specs.Prelude.{Bool, if◌then◌else◌, option_map}
 use Rattle.std.specs.List.{filter, best_of}
 use Rattle.std.proofs.lemmas.List.{map-append, append-nil, drop_all}
 use Rattle.std.proofs.lemmas.List.Elements.{filter_more}
-use Rattle.pie_spin.specs.Offers.{fits, rank_of_slot, is_offered}
-use Rattle.pie_spin.specs.Cycle.{Ranked, is_unmatched, may_choose, candidates, ranked_for, goes_before, first_of, choice}
+use Rattle.matchmaker.specs.Offers.{fits, rank_of_slot, is_offered}
+use Rattle.matchmaker.specs.Cycle.{Ranked, is_unmatched, may_choose, candidates, ranked_for, goes_before, first_of, choice}
 use Rattle.negotiate.specs.Grouped.{fits_now, list_for, Serves, first_kept, kept_before, choice_in, better_kept, best_kept}
 use Rattle.negotiate.proofs.Members.{IsIn}
-use Rattle.pie_spin.proofs.Choices.{filter_yes, filter_no}
+use Rattle.matchmaker.proofs.Choices.{filter_yes, filter_no}
 use Rattle.negotiate.proofs.Growing.{Grows, Grows-refl}
 use Rattle.pool_mail.specs.declared.matching.Request.{Request}
-use Rattle.pie_spin.specs.declared.snapshot.Offer.{Offer}
-use Rattle.pie_spin.specs.declared.snapshot.Snapshot.{Snapshot}
-use Rattle.pie_spin.specs.declared.course.Account.{Account}
-use Rattle.pie_spin.specs.declared.course.Made.{Made}
+use Rattle.matchmaker.specs.declared.snapshot.Offer.{Offer}
+use Rattle.matchmaker.specs.declared.snapshot.Snapshot.{Snapshot}
+use Rattle.matchmaker.specs.declared.course.Account.{Account}
+use Rattle.matchmaker.specs.declared.course.Made.{Made}
 
 -- the same matching slots and ranks
 abbrev pub AlikeAt : ℕ → List Offer → Request → Request → Type 0

@@ -8,20 +8,20 @@ use Rattle.std.specs.Option.{is_some}
 use Rattle.std.proofs.lemmas.Bool.{cases_eq, false≢true}
 use Rattle.std.proofs.lemmas.List.{get_or-set_same, get_or-set_other, length-set}
 use Rattle.std.proofs.lemmas.List.Sums.{sum_by-set}
-use Rattle.pie_spin.specs.Cycle.{choice, turn, match_of, Ranked}
+use Rattle.matchmaker.specs.Cycle.{choice, turn, match_of, Ranked}
 use Rattle.negotiate.specs.Grouped.{Alike, Lists, list_for, Serves, Tables, Seen, CostsLists, unjudged, choice_in, all_ranked}
 use Rattle.negotiate.specs.Parties.{requests_of}
 use Rattle.negotiate.proofs.Members.{contains_in, in_contains}
 use Rattle.negotiate.proofs.Growing.{Grows, Grows-push}
-use Rattle.pie_spin.proofs.Turning.{took_none, took_some}
+use Rattle.matchmaker.proofs.Turning.{took_none, took_some}
 use Rattle.negotiate.proofs.KeptLists.{AlikeAt, Serves-grows, Serves-alike, Serves-fresh, serve_choice}
 use Rattle.pool_mail.specs.declared.matching.Request.{Request}
 use Rattle.negotiate.specs.declared.grouping.Kept.{Kept}
 use Rattle.negotiate.specs.declared.grouping.Clustered.{Clustered}
-use Rattle.pie_spin.specs.declared.snapshot.Offer.{Offer}
-use Rattle.pie_spin.specs.declared.snapshot.Snapshot.{Snapshot}
-use Rattle.pie_spin.specs.declared.course.Account.{Account}
-use Rattle.pie_spin.specs.declared.course.Made.{Made}
+use Rattle.matchmaker.specs.declared.snapshot.Offer.{Offer}
+use Rattle.matchmaker.specs.declared.snapshot.Snapshot.{Snapshot}
+use Rattle.matchmaker.specs.declared.course.Account.{Account}
+use Rattle.matchmaker.specs.declared.course.Made.{Made}
 
 contains_more : {A : Type 0} (x y : A) (xs : List A) → Contains xs x → Contains (y ∷ xs) x
 contains_more x y xs c = in_contains x (y ∷ xs) (inr (contains_in x xs c))

@@ -8,20 +8,20 @@ use Rattle.ad_tree.specs.Ad.{Attributes}
 use Rattle.auto_cluster.specs.Significant.{IsSignificantPart}
 use Rattle.auto_cluster.specs.Clustering.{Clustering, IsNumbered, AreClusters}
 use Rattle.auto_cluster.specs.Laws.{AgreeingJobsMatchAlike, AreAlike}
-use Rattle.pie_spin.specs.Offers.{fits, rank_of_slot}
-use Rattle.pie_spin.specs.Cycle.{Bidder}
-use Rattle.pie_spin.specs.Loops as loops
+use Rattle.matchmaker.specs.Offers.{fits, rank_of_slot}
+use Rattle.matchmaker.specs.Cycle.{Bidder}
+use Rattle.matchmaker.specs.Loops as loops
 use Rattle.negotiate.specs.Grouped.{Alike, Lists, unjudged}
-use Rattle.pie_spin.specs.Opening.{IsOpening}
+use Rattle.matchmaker.specs.Opening.{IsOpening}
 use Rattle.negotiate.specs.Parties.{requests_of, bidder_of, HasTables, to_judge, slot_ads, IsNumberedIn, IsClustered, AreUnmade, IsPartyOf, HasClusters, JudgesWithin}
 use Rattle.negotiate.proofs.Members.{IsIn, contains_in, in_contains}
 use Rattle.negotiate.proofs.ListTables.{weight_of, unjudged_by}
 use Rattle.pool_mail.specs.declared.matching.Request.{Request}
-use Rattle.pie_spin.specs.declared.snapshot.Snapshot.{Snapshot}
-use Rattle.pie_spin.specs.declared.snapshot.Offer.{Offer}
+use Rattle.matchmaker.specs.declared.snapshot.Snapshot.{Snapshot}
+use Rattle.matchmaker.specs.declared.snapshot.Offer.{Offer}
 use Rattle.negotiate.specs.declared.grouping.Clustered.{Clustered}
 use Rattle.negotiate.specs.declared.parties.Party.{Party}
-use Rattle.pie_spin.specs.declared.course.Bidder as code
+use Rattle.matchmaker.specs.declared.course.Bidder as code
 
 -- ---- members
 

@@ -5,18 +5,18 @@ use Rattle.std.specs.List.{All, sum_by, filter}
 use Rattle.std.proofs.lemmas.List.Elements.{All-weaker, All-set, All-filter}
 use Rattle.std.proofs.lemmas.List.Sums.{sum_by-set, sum_by-cons}
 use Rattle.std.proofs.Math.Nat.{mul-le-mul_right}
-use Rattle.pie_spin.specs.Cycle.{turn, takes_part}
+use Rattle.matchmaker.specs.Cycle.{turn, takes_part}
 use Rattle.negotiate.specs.Grouped.{CostsLists, unjudged}
 use Rattle.negotiate.specs.Parties.{bidder_of, HasTables, to_judge, CostsAll}
-use Rattle.pie_spin.specs.Loops.{those_who_play}
+use Rattle.matchmaker.specs.Loops.{those_who_play}
 use Rattle.negotiate.proofs.Growing.{Grows}
 use Rattle.negotiate.proofs.Settling.{turned}
 use Rattle.negotiate.proofs.ListTables.{Tables-grows}
 use Rattle.pool_mail.specs.declared.matching.Request.{Request}
 use Rattle.negotiate.specs.declared.parties.Party.{Party}
-use Rattle.pie_spin.specs.declared.snapshot.Snapshot.{Snapshot}
-use Rattle.pie_spin.specs.declared.course.Account.{Account}
-use Rattle.pie_spin.specs.declared.course.Made.{Made}
+use Rattle.matchmaker.specs.declared.snapshot.Snapshot.{Snapshot}
+use Rattle.matchmaker.specs.declared.course.Account.{Account}
+use Rattle.matchmaker.specs.declared.course.Made.{Made}
 
 -- a turn only adds matches, so the other submitters' lists still serve
 pub turn_grows : (snap : Snapshot) (u : Account) (most : ℕ) (left after : List Request) (made later : List Made) →

@@ -3,17 +3,17 @@ use Rattle.std.proofs.Common.{◌≡◌, List, [], map, ap, ◌∙◌, subst}
 use Rattle.std.specs.List.{AllZip}
 use Rattle.ad_tree.specs.Ad.{Attributes}
 use Rattle.auto_cluster.specs.Clustering.{Clustering}
-use Rattle.pie_spin.specs.Cycle.{cycle_of}
-use Rattle.pie_spin.specs.Loops as loops
-use Rattle.pie_spin.specs.Opening.{IsOpening}
+use Rattle.matchmaker.specs.Cycle.{cycle_of}
+use Rattle.matchmaker.specs.Loops as loops
+use Rattle.matchmaker.specs.Opening.{IsOpening}
 use Rattle.negotiate.specs.Parties.{bidder_of, slot_ads, IsPartyOf}
-use Rattle.pie_spin.specs.Plain.{PlainCycle}
+use Rattle.matchmaker.specs.Plain.{PlainCycle}
 use Rattle.negotiate.proofs.Numbering.{same_bidders}
 use Rattle.pool_mail.specs.declared.matching.Match.{Match}
-use Rattle.pie_spin.specs.declared.snapshot.Snapshot.{Snapshot}
-use Rattle.pie_spin.specs.declared.snapshot.Offer.{Offer}
-use Rattle.pie_spin.specs.declared.course.Made.{Made}
-use Rattle.pie_spin.specs.declared.course.Bidder as code
+use Rattle.matchmaker.specs.declared.snapshot.Snapshot.{Snapshot}
+use Rattle.matchmaker.specs.declared.snapshot.Offer.{Offer}
+use Rattle.matchmaker.specs.declared.course.Made.{Made}
+use Rattle.matchmaker.specs.declared.course.Bidder as code
 use Rattle.negotiate.specs.declared.parties.Party.{Party}
 
 -- the autoclusters are those over the snapshot's slots

@@ -5,16 +5,16 @@ use Rattle.std.specs.List.{filter}
 use Rattle.std.specs.Str.{bytes_eq}
 use Rattle.std.specs.Cmp.Lexicographic.{nat_list_eq_equiv}
 use Rattle.std.proofs.lemmas.Bool.{eq-eqb, or_right}
-use Rattle.pie_spin.specs.Cycle.{may_choose, candidates, choice, first_of, match_of, turn}
-use Rattle.pie_spin.proofs.Turning.{turn_end, turn_stop, turn_none, turn_some, cases_Option}
+use Rattle.matchmaker.specs.Cycle.{may_choose, candidates, choice, first_of, match_of, turn}
+use Rattle.matchmaker.proofs.Turning.{turn_end, turn_stop, turn_none, turn_some, cases_Option}
 use Rattle.negotiate.specs.Laws.{is_matched, same_job}
 use Rattle.negotiate.proofs.Members.{IsIn}
 use Rattle.negotiate.proofs.Growing.{Grows, Grows-refl, Grows-trans, Grows-push, stays_taken}
 use Rattle.pool_mail.specs.declared.matching.Request.{Request}
-use Rattle.pie_spin.specs.declared.snapshot.Offer.{Offer}
-use Rattle.pie_spin.specs.declared.snapshot.Snapshot.{Snapshot}
-use Rattle.pie_spin.specs.declared.course.Account.{Account}
-use Rattle.pie_spin.specs.declared.course.Made.{Made}
+use Rattle.matchmaker.specs.declared.snapshot.Offer.{Offer}
+use Rattle.matchmaker.specs.declared.snapshot.Snapshot.{Snapshot}
+use Rattle.matchmaker.specs.declared.course.Account.{Account}
+use Rattle.matchmaker.specs.declared.course.Made.{Made}
 
 -- ---- a request is settled: it is matched, or no slot may be chosen for it
 

@@ -5,13 +5,13 @@ use Rattle.std.specs.List.{IsDistinct}
 use Rattle.std.proofs.lemmas.Bool.{cases_eq, cases_Bool, ltb-true, ltb-false}
 use Rattle.std.proofs.lemmas.List.{get_or_default}
 use Rattle.std.proofs.lemmas.List.Sorted.{Contains-permutation, IsPermutation-sym}
-use Rattle.pie_spin.specs.declared.snapshot.Snapshot.{Snapshot}
-use Rattle.pie_spin.specs.declared.snapshot.Submitter.{Submitter}
-use Rattle.pie_spin.specs.declared.course.Account.{Account}
-use Rattle.pie_spin.specs.declared.course.Made.{Made}
-use Rattle.pie_spin.specs.Offers.{is_offered}
-use Rattle.pie_spin.specs.Cycle.{Bidder, account_of, cycle_of, is_below_ceiling, may_choose, match_of, same_slot}
-use Rattle.pie_spin.specs.Opening.{IsBidderOf, IsOpening}
+use Rattle.matchmaker.specs.declared.snapshot.Snapshot.{Snapshot}
+use Rattle.matchmaker.specs.declared.snapshot.Submitter.{Submitter}
+use Rattle.matchmaker.specs.declared.course.Account.{Account}
+use Rattle.matchmaker.specs.declared.course.Made.{Made}
+use Rattle.matchmaker.specs.Offers.{is_offered}
+use Rattle.matchmaker.specs.Cycle.{Bidder, account_of, cycle_of, is_below_ceiling, may_choose, match_of, same_slot}
+use Rattle.matchmaker.specs.Opening.{IsBidderOf, IsOpening}
 use Rattle.negotiate.specs.Laws.{is_matched, CyclesIdleForCause, CyclesAreSound, CyclesGiveOnce, UsersDiffer, CeilingsAreKept}
 use Rattle.negotiate.proofs.Members.{IsIn, contains_in, in_contains, zip_along, zip_back}
 use Rattle.negotiate.proofs.Idle.{idle_for_cause}

@@ -11,16 +11,16 @@ use Rattle.std.specs.Cmp.{IsEquivalence, and_equiv}
 use Rattle.claim_id.specs.declared.numbers.SlotId.{SlotId}
 use Rattle.std.proofs.lemmas.List.{map_push}
 use Rattle.std.proofs.lemmas.Map.Keys.{IsDistinct-push}
-use Rattle.pie_spin.specs.Offers.{fits, is_offered}
-use Rattle.pie_spin.specs.Cycle.{Bidder, Course, is_unmatched, may_choose, candidates, given, under_ceiling, is_under, is_below_ceiling, goes_before, first_of, choice, match_of, turn, turns, takes_part, players, is_over, spin, spin_of, spins, requests_left, last_course, cycle_of, same_slot}
+use Rattle.matchmaker.specs.Offers.{fits, is_offered}
+use Rattle.matchmaker.specs.Cycle.{Bidder, Course, is_unmatched, may_choose, candidates, given, under_ceiling, is_under, is_below_ceiling, goes_before, first_of, choice, match_of, turn, turns, takes_part, players, is_over, spin, spin_of, spins, requests_left, last_course, cycle_of, same_slot}
 use Rattle.negotiate.proofs.Members.{IsIn}
-use Rattle.pie_spin.proofs.Turning.{turn_end, turn_stop, turn_none, turn_some, cases_Option}
-use Rattle.pie_spin.proofs.Ending.{most_of, first_turn, turns_end, turns_more, spins_stop, spins_more}
+use Rattle.matchmaker.proofs.Turning.{turn_end, turn_stop, turn_none, turn_some, cases_Option}
+use Rattle.matchmaker.proofs.Ending.{most_of, first_turn, turns_end, turns_more, spins_stop, spins_more}
 use Rattle.pool_mail.specs.declared.matching.Request.{Request}
-use Rattle.pie_spin.specs.declared.snapshot.Offer.{Offer}
-use Rattle.pie_spin.specs.declared.snapshot.Snapshot.{Snapshot}
-use Rattle.pie_spin.specs.declared.course.Account.{Account}
-use Rattle.pie_spin.specs.declared.course.Made.{Made}
+use Rattle.matchmaker.specs.declared.snapshot.Offer.{Offer}
+use Rattle.matchmaker.specs.declared.snapshot.Snapshot.{Snapshot}
+use Rattle.matchmaker.specs.declared.course.Account.{Account}
+use Rattle.matchmaker.specs.declared.course.Made.{Made}
 
 -- ---- what is chosen may be chosen
 

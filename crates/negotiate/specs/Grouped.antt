@@ -5,15 +5,15 @@ use Rattle.std.specs.Global.{Global}
 use Rattle.std.specs.List.{count_by, best_of}
 use Rattle.std.specs.Option.{is_some}
 use Rattle.std.specs.Ordering.{is_lt}
-use Rattle.pie_spin.specs.declared.snapshot.Snapshot.{Snapshot}
-use Rattle.pie_spin.specs.declared.snapshot.Offer.{Offer}
-use Rattle.pie_spin.specs.declared.course.Account.{Account}
-use Rattle.pie_spin.specs.declared.course.Made.{Made}
+use Rattle.matchmaker.specs.declared.snapshot.Snapshot.{Snapshot}
+use Rattle.matchmaker.specs.declared.snapshot.Offer.{Offer}
+use Rattle.matchmaker.specs.declared.course.Account.{Account}
+use Rattle.matchmaker.specs.declared.course.Made.{Made}
 use Rattle.negotiate.specs.declared.grouping.Kept.{Kept}
 use Rattle.negotiate.specs.declared.grouping.Clustered.{Clustered}
 use Rattle.pool_mail.specs.declared.matching.Request.{Request}
-use Rattle.pie_spin.specs.Offers.{fits, rank_of_slot, is_offered}
-use Rattle.pie_spin.specs.Cycle.{Ranked, is_unmatched, choice_order, ranked_for}
+use Rattle.matchmaker.specs.Offers.{fits, rank_of_slot, is_offered}
+use Rattle.matchmaker.specs.Cycle.{Ranked, is_unmatched, choice_order, ranked_for}
 
 -- the same matching slots and ranks
 pub record Alike (s : Snapshot) (q r : Request) : Type 0 where

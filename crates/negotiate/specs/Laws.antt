@@ -4,14 +4,14 @@ use Rattle.std.specs.List.{list_any, IsDistinct, AllPairs}
 use Rattle.std.specs.Str.{bytes_eq}
 use Rattle.claim_id.specs.declared.numbers.JobId.{JobId}
 use Rattle.pool_mail.specs.declared.matching.Request.{Request}
-use Rattle.pie_spin.specs.declared.snapshot.Snapshot.{Snapshot}
-use Rattle.pie_spin.specs.declared.snapshot.Submitter.{Submitter}
-use Rattle.pie_spin.specs.declared.snapshot.Offer.{Offer}
-use Rattle.pie_spin.specs.declared.course.Account.{Account}
-use Rattle.pie_spin.specs.declared.course.Made.{Made}
-use Rattle.pie_spin.specs.Offers.{fits, is_offered}
-use Rattle.pie_spin.specs.Cycle.{account_of, may_choose, is_below_ceiling, match_of, given, same_slot}
-use Rattle.pie_spin.specs.Plain.{IsCycle}
+use Rattle.matchmaker.specs.declared.snapshot.Snapshot.{Snapshot}
+use Rattle.matchmaker.specs.declared.snapshot.Submitter.{Submitter}
+use Rattle.matchmaker.specs.declared.snapshot.Offer.{Offer}
+use Rattle.matchmaker.specs.declared.course.Account.{Account}
+use Rattle.matchmaker.specs.declared.course.Made.{Made}
+use Rattle.matchmaker.specs.Offers.{fits, is_offered}
+use Rattle.matchmaker.specs.Cycle.{account_of, may_choose, is_below_ceiling, match_of, given, same_slot}
+use Rattle.matchmaker.specs.Plain.{IsCycle}
 
 abbrev pub same_job : JobId → JobId → Bool
 same_job a b = (a.cluster == b.cluster) && (a.proc == b.proc)

@@ -5,14 +5,14 @@ use Rattle.pool_mail.specs.declared.matching.Request.{Request}
 use Rattle.ad_tree.specs.Ad.{Attributes}
 use Rattle.auto_cluster.specs.Significant.{IsSignificantPart}
 use Rattle.auto_cluster.specs.Clustering.{Clustering, AreClusters}
-use Rattle.pie_spin.specs.declared.snapshot.Snapshot.{Snapshot}
-use Rattle.pie_spin.specs.declared.course.Made.{Made}
-use Rattle.pie_spin.specs.declared.course.Bidder as code
+use Rattle.matchmaker.specs.declared.snapshot.Snapshot.{Snapshot}
+use Rattle.matchmaker.specs.declared.course.Made.{Made}
+use Rattle.matchmaker.specs.declared.course.Bidder as code
 use Rattle.negotiate.specs.declared.grouping.Clustered.{Clustered}
 use Rattle.negotiate.specs.declared.parties.Party.{Party}
-use Rattle.pie_spin.specs.Cycle.{Bidder}
+use Rattle.matchmaker.specs.Cycle.{Bidder}
 use Rattle.negotiate.specs.Grouped.{Lists, Tables, unjudged}
-use Rattle.pie_spin.specs.Opening.{IsOpening}
+use Rattle.matchmaker.specs.Opening.{IsOpening}
 
 abbrev pub requests_of : List Clustered → List Request
 requests_of left = map (λ r. r.request) left

@@ -4,16 +4,13 @@ ghost use Rattle.std.specs.Prelude.{◌≡◌, ℕ, ◌+◌, ◌≤◌, ◌<◌,
 ghost use Rattle.std.specs.Option.{is_some, option_map};
 ghost use Rattle.std.specs.Global.{Global as TheGlobal};
 ghost use Rattle.negotiate.specs.declared.grouping.Kept.{Kept as AKept};
-ghost use Rattle.pie_spin.specs.Cycle as cycle;
-ghost use Rattle.pie_spin.specs.Offers as offers;
+ghost use Rattle.matchmaker.specs.Cycle as cycle;
+ghost use Rattle.matchmaker.specs.Offers as offers;
 ghost use Rattle.negotiate.specs.Grouped as grouped;
 
 use ad_eval::Steps;
 use ad_value::Memory;
-use pie_spin::{
-    Account, Made, Offer, Snapshot, choice_order, fits, is_offered, is_unmatched, match_of,
-    rank_of_slot,
-};
+use matchmaker::{Account, Made, Offer, Snapshot, choice_order, fits, is_offered, is_unmatched, match_of, rank_of_slot};
 use pool_mail::Request;
 use std::alloc::Global;
 use std::collections::VecDeque;

@@ -2,20 +2,17 @@
 
 ghost use Rattle.std.specs.Prelude.{◌≡◌, ◌==◌, ◌||◌, ℕ, ◌+◌, ◌*◌, ◌≤◌, ◌<◌, map, length, [], IfOk, OnOk};
 ghost use Rattle.std.specs.List.{All, sum_by};
-ghost use Rattle.pie_spin.specs.Cycle as cycle;
-ghost use Rattle.pie_spin.specs.Loops as loops;
+ghost use Rattle.matchmaker.specs.Cycle as cycle;
+ghost use Rattle.matchmaker.specs.Loops as loops;
 ghost use Rattle.negotiate.specs.Parties as those;
 
 use crate::grouping::{Clustered, Lists, grouped_turn};
 use ad_eval::Steps;
 use ad_value::Memory;
-use pie_spin::{
-    Account, Made, Snapshot, greater, is_below_ceiling, share, under_ceiling, unmatched, weight,
-};
+use matchmaker::{Account, MAX_SLOTS, MAX_USERS, Made, Snapshot, greater, is_below_ceiling, share, under_ceiling, unmatched, weight};
 use std::alloc::Global;
 use std::collections::VecDeque;
 use std::sync::ledger::Ledger;
-use user_priority::{MAX_SLOTS, MAX_USERS};
 
 /// A submitter with the requests that it has left, in order, and a list for each of its
 /// autoclusters that was judged.
@@ -26,7 +23,7 @@ pub struct Party<'a> {
     pub lists: Lists<'a>,
 }
 
-#[tactic(auto, unfolding(pie_spin::specs::Cycle::takes_part, pie_spin::specs::Cycle::has_left))]
+#[tactic(auto, unfolding(matchmaker::specs::Cycle::takes_part, matchmaker::specs::Cycle::has_left))]
 fn takes_part(party: &Party<'_>, made: &[Made]) -> bool
     ensures { result ≡ cycle.takes_part made.now (those.bidder_of party.now) }
 {

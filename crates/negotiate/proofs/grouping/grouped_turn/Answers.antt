@@ -1,13 +1,13 @@
 use Rattle.std.proofs.Common.{◌≡◌, List, [], sym, ap, ◌∙◌, arith, subst, rules}
 use Rattle.std.specs.Prelude.{Vec}
 use Rattle.std.specs.Global.{Global}
-use Rattle.pie_spin.specs.Cycle.{turn}
+use Rattle.matchmaker.specs.Cycle.{turn}
 use Rattle.negotiate.specs.Grouped.{Tables}
 use Rattle.negotiate.specs.Parties.{requests_of}
-use Rattle.pie_spin.proofs.Turning.{turn_end, turn_stop}
+use Rattle.matchmaker.proofs.Turning.{turn_end, turn_stop}
 use Rattle.negotiate.proofs.ListTables.{contains_first, TurnLeft-none, TurnLeft-some}
 use Rattle.negotiate.specs.declared.grouping.Clustered.{Clustered}
-use Rattle.pie_spin.specs.declared.course.Made.{Made}
+use Rattle.matchmaker.specs.declared.course.Made.{Made}
 use Rattle.negotiate.proofs.grouping.grouped_turn.Goals as goal
 use Rattle.negotiate.proofs.grouping.grouped_turn.Goals.{in-Some-chosen+in_ok-one+in_ok-push, in_default-chosen}
 

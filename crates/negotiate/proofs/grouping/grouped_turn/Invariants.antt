@@ -1,5 +1,5 @@
 use Rattle.std.proofs.Common.{length}
-use Rattle.pie_spin.specs.Cycle.{turn}
+use Rattle.matchmaker.specs.Cycle.{turn}
 use Rattle.negotiate.specs.Parties.{requests_of}
 use Rattle.negotiate.proofs.ListTables.{TurnLeft}
 use Rattle.negotiate.proofs.grouping.grouped_turn.Given as goal

@@ -1,13 +1,13 @@
 use Rattle.std.proofs.Common.{◌<◌, ◌≤◌, List, map, length, sym, ◌∙◌, ap, arith, subst}
 use Rattle.std.specs.List.{All}
 use Rattle.std.proofs.lemmas.List.{with_items_is}
-use Rattle.pie_spin.specs.Cycle.{cycle_of, last_course, requests_left}
-use Rattle.pie_spin.specs.Loops.{course_of, those_who_play}
-use Rattle.pie_spin.proofs.Cycles.{SpinsLeft, spins_begin, spins_end, spins_step, spin_smaller, players_positive, players_few, still_positive, over_of}
-use Rattle.pie_spin.proofs.Spins.{same_length}
+use Rattle.matchmaker.specs.Cycle.{cycle_of, last_course, requests_left}
+use Rattle.matchmaker.specs.Loops.{course_of, those_who_play}
+use Rattle.matchmaker.proofs.Cycles.{SpinsLeft, spins_begin, spins_end, spins_step, spin_smaller, players_positive, players_few, still_positive, over_of}
+use Rattle.matchmaker.proofs.Spins.{same_length}
 use Rattle.negotiate.specs.Parties.{bidder_of, HasTables, CostsAll}
 use Rattle.negotiate.proofs.PartyTurns.{players_tables, costs_on}
-use Rattle.user_priority.specs.declared.accountant.TheConstants.{MAX_USERS}
+use Rattle.matchmaker.specs.declared.accountant.TheConstants.{MAX_USERS}
 use Rattle.negotiate.specs.declared.parties.Party.{Party}
 use Rattle.negotiate.proofs.parties.grouped_matches.Goals as goal
 

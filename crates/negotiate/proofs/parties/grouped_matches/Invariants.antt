@@ -1,10 +1,10 @@
 use Rattle.std.proofs.Common.{◌<◌, ◌≤◌, map, length}
-use Rattle.user_priority.specs.declared.accountant.TheConstants.{MAX_USERS}
+use Rattle.matchmaker.specs.declared.accountant.TheConstants.{MAX_USERS}
 use Rattle.std.specs.List.{All}
-use Rattle.pie_spin.specs.Cycle.{requests_left, last_course}
-use Rattle.pie_spin.specs.Loops.{course_of}
+use Rattle.matchmaker.specs.Cycle.{requests_left, last_course}
+use Rattle.matchmaker.specs.Loops.{course_of}
 use Rattle.negotiate.specs.Parties.{bidder_of, HasTables, CostsAll}
-use Rattle.pie_spin.proofs.Cycles.{SpinsLeft}
+use Rattle.matchmaker.proofs.Cycles.{SpinsLeft}
 use Rattle.negotiate.proofs.parties.grouped_matches.Given as goal
 
 abbrev pub invariant-spins : goal.invariant-spins

@@ -1,7 +1,7 @@
 use Rattle.std.proofs.Common.{◌<◌, ◌≤◌, refl, sym, ◌∙◌, arith, length, get_or}
-use Rattle.pie_spin.specs.Cycle.{share}
+use Rattle.matchmaker.specs.Cycle.{share}
 use Rattle.negotiate.specs.Parties.{bidder_of}
-use Rattle.pie_spin.proofs.Spins.{positive_at, part_at, same_account, spin_step, spin_end, spin_begin, spin_is, first_turn_is}
+use Rattle.matchmaker.proofs.Spins.{positive_at, part_at, same_account, spin_step, spin_end, spin_begin, spin_is, first_turn_is}
 use Rattle.negotiate.proofs.PartyTurns.{turn_grows, all_tables, all_costs}
 use Rattle.negotiate.proofs.parties.grouped_spin.Goals as goal
 

@@ -1,7 +1,7 @@
 use Rattle.std.proofs.Common.{◌≡◌, take, drop, map, length}
 use Rattle.std.specs.List.{All}
-use Rattle.pie_spin.specs.Cycle.{turns, share}
-use Rattle.pie_spin.specs.Loops.{after_those}
+use Rattle.matchmaker.specs.Cycle.{turns, share}
+use Rattle.matchmaker.specs.Loops.{after_those}
 use Rattle.negotiate.specs.Parties.{bidder_of, HasTables, CostsAll}
 use Rattle.negotiate.proofs.parties.grouped_spin.Given as goal
 

@@ -1,6 +1,6 @@
 use Rattle.std.proofs.Common.{◌≡◌, ◌*◌, ◌^◌, ◌≤◌, take}
 use Rattle.std.specs.List.{sum_by}
-use Rattle.pie_spin.specs.Cycle.{weight}
+use Rattle.matchmaker.specs.Cycle.{weight}
 use Rattle.negotiate.proofs.parties.weights.Given as goal
 
 abbrev pub invariant-loop-party : goal.invariant-loop-party

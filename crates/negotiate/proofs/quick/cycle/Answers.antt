@@ -2,7 +2,7 @@ use Rattle.std.proofs.Common.{◌≡◌, ◌∙◌, length, map, ap, arith}
 use Rattle.negotiate.specs.Parties.{slot_ads}
 use Rattle.negotiate.proofs.Numbering.{tables_of, positive_parties, as_many_parties, judges_within}
 use Rattle.negotiate.proofs.QuickCycles.{parties_over, cycle_is_plain}
-use Rattle.pie_spin.specs.declared.course.Made.{Made}
+use Rattle.matchmaker.specs.declared.course.Made.{Made}
 use Rattle.negotiate.proofs.quick.cycle.Goals as goal
 
 pub grouped_matches-requires-clause-positive : goal.grouped_matches-requires-clause-positive

@@ -1,5 +1,0 @@
-use Rattle.collector.proofs.Telling.{keeps_what_is_heard}
-use Rattle.collector.proofs.laws.collector_keeps_what_is_heard.Goals as goal
-
-pub returns : goal.returns
-returns c = keeps_what_is_heard

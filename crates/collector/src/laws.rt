@@ -1,9 +1,0 @@
-//! What a collector keeps, in the words of the subject.
-
-ghost use Rattle.collector.specs.Laws.{KeepsWhatIsHeard};
-
-/// A collector keeps exactly the last ad of each name that was not forgotten since, nor found too
-/// old by an `expire` since.
-pub fn collector_keeps_what_is_heard()
-    ensures { KeepsWhatIsHeard }
-{}

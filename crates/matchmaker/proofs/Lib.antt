@@ -1,0 +1,10 @@
+pub mod Choices
+pub mod Cycles
+pub mod Ending
+pub mod Named
+pub mod Openings
+pub mod Spins
+pub mod Telling
+pub mod Ticks
+pub mod Turning
+pub mod Users

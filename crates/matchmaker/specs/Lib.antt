@@ -1,0 +1,14 @@
+pub mod Accounts
+pub mod Cycle
+pub mod Heard
+pub mod Kept
+pub mod Keyed
+pub mod Laws
+pub mod Loops
+pub mod Offers
+pub mod Opening
+pub mod Plain
+pub mod Priority
+pub mod PriorityLaws
+pub mod Snapshots
+pub mod Tables

@@ -1,6 +1,0 @@
-use Rattle.std.proofs.Common.{◌≡◌}
-use Rattle.user_priority.proofs.Users.{later_upto}
-use Rattle.user_priority.proofs.table.advance_all.Given as goal
-
-abbrev pub invariant-users : goal.invariant-users
-invariant-users l = l.users.entries ≡ later_upto l.ticks l.place l.fn.users.entries

@@ -1,4 +1,0 @@
-pub mod Priority
-pub mod Accounts
-pub mod Tables
-pub mod Laws
