@@ -1,12 +1,20 @@
-pub mod Members
+pub mod Agreeing
+pub mod Alike
+mod ClusterMembers
+pub mod Found
 pub mod Growing
-pub mod Settling
 pub mod Idle
-pub mod Sound
-pub mod Snapshots
-pub mod KeptLists
-pub mod ListTables
-pub mod PartyTurns
 pub mod Judged
+pub mod KeptLists
+mod LinkLemmas
+pub mod ListTables
+pub mod Members
+mod Named
 pub mod Numbering
+pub mod PartyTurns
+mod Places
 pub mod QuickCycles
+mod Reaches
+pub mod Settling
+pub mod Snapshots
+pub mod Sound

@@ -1,0 +1,23 @@
+use Rattle.std.proofs.Common.{◌≡◌, ◌++◌, ◌∷◌, [], List, length, refl, ap, sym, ◌∙◌, subst}
+use Rattle.std.specs.Prelude.{◌≢◌, Contains}
+use Rattle.std.specs.List.{All}
+use Rattle.ad_tree.specs.Ad.{Attributes}
+use Rattle.negotiate.specs.Clustering.{Clustering}
+use Rattle.negotiate.specs.Finding.{part_digest, places_under, AreFoundBy}
+use Rattle.negotiate.proofs.Named.{one_cluster}
+use Rattle.negotiate.proofs.Found.{found_more, place_at}
+use Rattle.negotiate.proofs.clusters.Clusters.put.Goals as goal
+
+pub invariant_of-self-2 : goal.invariant_of-self-2
+invariant_of-self-2 c =
+    let parts = c.self.inside.parts.items in
+    let part = c.args.part in
+    let after : c.push.new.self.items ≡ parts ++ part ∷ [] = rw (c.push.ensures.items, c.unwrap.ensures, c.in_ok-reserve.ensures.items) refl in
+    let differ : All (λ (p : Attributes). p ≢ part) parts = subst (λ (v : Clustering). All (λ (p : Attributes). p ≢ part) v.parts) (sym c.self.view_is) c.requires in
+    let put : Contains (places_under c.put_under.new.places (part_digest part)) (length parts) =
+    place_at c.put_under.new.places c.part_digest.result (part_digest part) c.len-place.result (length parts) c.part_digest.ensures (c.len-place.ensures ∙ ap (λ (v : Clustering). length v.parts) (sym c.self.view_is)) c.in_ok-put_under.ensures.put in (
+      one_cluster parts c.push.new.self.items part c.self.invariant.0 differ after,
+      c.self.invariant.1,
+      subst (λ (ps : List Attributes). AreFoundBy c.put_under.new.places ps) (sym after)
+          (found_more c.self.inside.places c.put_under.new.places parts part c.self.invariant.2 c.put_under.ensures.others put),
+    )
