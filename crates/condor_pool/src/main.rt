@@ -3,12 +3,12 @@
 
 ghost use Rattle.std.specs.Prelude.{◌≡◌, ◌⊎◌, ◌↔◌, All, IfOk, length};
 ghost use Rattle.pool_input.specs.declared.status.Status.{Status};
-ghost use Rattle.run_words.specs.Words.{IsNoRun, texts};
+ghost use Rattle.pool_input.specs.Words.{IsNoRun, texts};
 
+use pool_input::{Question, command_line, lone_question};
 use pool_master::{MACHINES, Ran, Status, run_pool};
 use pool_outer::{ChildSpawner, OpenGate, Spawner, StdSink, SystemClock};
 use pool_store::DiskStore;
-use run_words::{Question, command_line, lone_question};
 use std::alloc::{AllocError, Global};
 use std::fs::File;
 use std::process::{ExitCode, Processes, id};

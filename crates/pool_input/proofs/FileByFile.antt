@@ -18,7 +18,7 @@ use Rattle.pool_input.specs.Faults.{fault_status, UnlessOut, UnlessFault, IsStat
 use Rattle.pool_input.specs.Readings.{AreRead}
 use Rattle.pool_input.specs.Submissions.{AsksFor, IsSubmitRefused, Submits, submits_end, stops, and_submits, StopsAt, TakesSubmission, submit_step, submit_steps}
 use Rattle.std.specs.Borrow.{Bor}
-use Rattle.run_words.specs.Words.{file_names}
+use Rattle.pool_input.specs.Words.{file_names}
 use Rattle.pool_input.proofs.Reading.{read_more}
 
 pub submits-more : (list : List Step) (s : List Attributes × ℕ) → submissions_in (list ++ submit_step s ∷ []) ≡ submissions_in list ++ s ∷ []

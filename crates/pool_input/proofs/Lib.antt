@@ -1,8 +1,10 @@
-pub mod Reading
-pub mod OneFile
-pub mod Loading
-pub mod FileFaults
-pub mod Pieces
 pub mod FileByFile
-pub mod Slots
+pub mod FileFaults
+pub mod Found
+pub mod Loading
+pub mod OneFile
 pub mod OneStatus
+pub mod Pieces
+pub mod Reading
+pub mod Slots
+pub mod WordsReading

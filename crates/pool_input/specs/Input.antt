@@ -19,7 +19,7 @@ use Rattle.pool_input.specs.declared.status.Status.{Status}
 use Rattle.pool_input.specs.Faults.{config_fault, fault_status}
 use Rattle.pool_input.specs.Readings.{AreRead, IsAnyReading}
 use Rattle.pool_input.specs.Submissions.{IsTextOf, HasNoText, Submits, StopsAt, submit_steps}
-use Rattle.run_words.specs.Words.{IsRun}
+use Rattle.pool_input.specs.Words.{IsRun}
 
 pub record IsConfigFile (file : Option (List ℕ)) (c : Configuration) : Type 0 where
   pub text : List ℕ

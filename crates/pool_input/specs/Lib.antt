@@ -1,6 +1,9 @@
-pub mod Status
-pub mod ReadErrors
+pub mod Command
 pub mod Faults
-pub mod Readings
-pub mod Submissions
 pub mod Input
+pub mod Questions
+pub mod ReadErrors
+pub mod Readings
+pub mod Status
+pub mod Submissions
+pub mod Words

@@ -11,7 +11,7 @@ ghost use Rattle.pool_input.specs.Input.{HasSubmitted, IsConfigFile, IsConfigRef
 ghost use Rattle.pool_input.specs.declared.status.Status.{Status};
 ghost use Rattle.pool_input.specs.Status.{stage_of, IsAtFiles};
 ghost use Rattle.pool_input.specs.Submissions.{HasNoText, IsTextOf, StopsAt, Submits};
-ghost use Rattle.run_words.specs.Words.{file_names};
+ghost use Rattle.pool_input.specs.Words.{file_names};
 
 use crate::fault::{Fault, config_fault, fault_status};
 use crate::files::read_file;
@@ -21,7 +21,7 @@ use ad_value::{Copied, Memory, Text};
 use pool_config::{ConfiguredSlot, configured_slots, read};
 use pool_outer::{Clock, Store};
 use pool_settings::Config;
-use run_words::Named;
+use crate::Named;
 use std::alloc::Global;
 use thin_pool::{Course, PoolSlot, PoolSlotList};
 

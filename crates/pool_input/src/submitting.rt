@@ -10,7 +10,7 @@ ghost use Rattle.pool_input.specs.Faults.{IsFileFault, UnlessFault, UnlessOut};
 ghost use Rattle.pool_input.specs.Readings.{AreRead};
 ghost use Rattle.pool_input.specs.Status.{stage_of, IsAtFiles};
 ghost use Rattle.pool_input.specs.Submissions.{IsSubmitRefused, StopsAt, Submits, TakesSubmission, submit_step, submit_steps};
-ghost use Rattle.run_words.specs.Words.{file_names};
+ghost use Rattle.pool_input.specs.Words.{file_names};
 
 use crate::fault::{Fault, fault_status, submit_fault};
 use crate::input::read_text;

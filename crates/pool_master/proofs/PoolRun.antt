@@ -15,7 +15,7 @@ use Rattle.pool_input.specs.declared.status.Status.{Status}
 use Rattle.pool_input.specs.declared.status.Status.TheVariants as status
 use Rattle.pool_input.specs.Faults.{UnlessFault}
 use Rattle.pool_input.specs.Input.{IsOfFiles, OfFilesFrom, OfInputFrom, IsRefusedByFiles, IsInputRefused}
-use Rattle.run_words.specs.Words.{IsRun, IsNoRun}
+use Rattle.pool_input.specs.Words.{IsRun, IsNoRun}
 use Rattle.pool_input.specs.Readings.{AreRead}
 use Rattle.pool_input.specs.Status.{Stage, AtWords, AtFiles, AtAnyTime, AfterClose, Later, stage_of, IsAtFiles, IsAfterFiles, IsRefusal}
 use Rattle.pool_master.specs.Runs.{JobRun, runs_in, runs_on}

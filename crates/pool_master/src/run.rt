@@ -7,7 +7,7 @@ ghost use Rattle.pool_input.specs.Input.{IsInputRefused, IsRefusedInput, IsRefus
 ghost use Rattle.thin_pool.specs.Histories.{submissions_in};
 ghost use Rattle.pool_input.specs.Readings.{AreRead, AreReadings};
 ghost use Rattle.pool_input.specs.Status.{stage_of, IsBeforePool, IsRefusal, IsAfterFiles, IsToday};
-ghost use Rattle.run_words.specs.Words.{IsNoRun, file_names, texts};
+ghost use Rattle.pool_input.specs.Words.{IsNoRun, file_names, texts};
 ghost use Rattle.pool_master.specs.Runs.{IsLaunched, EndAsSeen, child_runs, not_started_count, run_launches, runs_in, runs_on};
 ghost use Rattle.pool_master.specs.Seen.{spawner_seen, sink_seen};
 ghost use Rattle.pool_master.specs.Follows.{AtEach, IsChildCount, AreUntouched};
@@ -16,9 +16,8 @@ ghost use Rattle.pool_master.specs.WholeRun.{IsAllWritten, IsClosed, IsReplay, I
 use crate::output::write_all;
 use crate::play::play;
 use crate::user_log::log_text;
-use pool_input::{Status, load};
+use pool_input::{Named, Status, WordsError, load, read};
 use pool_outer::{Clock, Gate, Sink, Spawner, Store};
-use run_words::{Named, WordsError, read};
 use std::alloc::Global;
 use std::sync::Wait;
 use std::thread::Threads;

@@ -1,7 +1,7 @@
 use Rattle.std.proofs.Common.{◌∙◌, Err}
 use Rattle.pool_settings.specs.Configuration.{configuration_of}
 use Rattle.pool_input.specs.Readings.{IsAnyReading}
-use Rattle.run_words.specs.Words.{file_names}
+use Rattle.pool_input.specs.Words.{file_names}
 use Rattle.pool_input.proofs.Loading.{config_stops, submit_stops, input_of}
 use Rattle.pool_input.proofs.OneStatus.{refusal_comes}
 use Rattle.pool_input.proofs.FileByFile.{disk_of}

@@ -3,7 +3,7 @@ use Rattle.pool_settings.specs.Configuration.{configuration_of}
 use Rattle.thin_pool.specs.Histories.{submissions_in}
 use Rattle.thin_pool.specs.Reactions.{opening_pool}
 use Rattle.pool_input.specs.Input.{pool_slots}
-use Rattle.run_words.specs.Words.{file_names}
+use Rattle.pool_input.specs.Words.{file_names}
 use Rattle.pool_input.proofs.Loading.{submits_with, stops_with, submitted_of, opening_rests}
 use Rattle.pool_input.proofs.input.load_submits.Goals as goal
 

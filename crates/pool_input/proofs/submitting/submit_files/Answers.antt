@@ -1,5 +1,5 @@
 use Rattle.std.proofs.Common.{◌∙◌, List, ℕ, subst, rules, arith}
-use Rattle.run_words.specs.Words.{file_names}
+use Rattle.pool_input.specs.Words.{file_names}
 use Rattle.pool_input.proofs.FileByFile.{SoFar, so_far_first, so_far_at, so_far_all, stops_at, no_names, disk_of, rests_next, slots_next, steps_next, read_next, read_none}
 use Rattle.pool_input.proofs.submitting.submit_files.Goals as goal
 

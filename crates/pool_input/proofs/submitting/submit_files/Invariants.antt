@@ -5,7 +5,7 @@ use Rattle.thin_pool.specs.Histories.{submissions_in}
 use Rattle.thin_pool.specs.Resting.{IsResting}
 use Rattle.pool_input.specs.Readings.{AreRead}
 use Rattle.pool_input.specs.Submissions.{submit_steps}
-use Rattle.run_words.specs.Words.{file_names}
+use Rattle.pool_input.specs.Words.{file_names}
 use Rattle.pool_input.proofs.FileByFile.{SoFar}
 use Rattle.pool_input.proofs.submitting.submit_files.Given as goal
 

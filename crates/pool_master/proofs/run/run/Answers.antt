@@ -1,5 +1,5 @@
 use Rattle.std.proofs.Common.{◌≡◌, rules, arith}
-use Rattle.run_words.specs.Words.{file_names, texts}
+use Rattle.pool_input.specs.Words.{file_names, texts}
 use Rattle.pool_master.proofs.Spawners.{all_at}
 use Rattle.pool_master.proofs.PoolRun.{nothing_runs, files_of_input, refusal_named, not_named}
 use Rattle.pool_master.proofs.run.run.Goals as goal

@@ -1,7 +1,7 @@
 use Rattle.std.proofs.Common.{◌≡◌, arith}
 use Rattle.pool_input.specs.Input.{IsRefusedOf}
 use Rattle.pool_input.specs.Status.{stage_of}
-use Rattle.run_words.specs.Words.{file_names}
+use Rattle.pool_input.specs.Words.{file_names}
 use Rattle.pool_master.proofs.Spawners.{all_at}
 use Rattle.pool_master.proofs.PoolRun.{nothing_runs, files_no_close, of_files, refusal_of, late_no_refusal}
 use Rattle.pool_master.proofs.run.run_files.Goals as goal

@@ -2,8 +2,8 @@ use Rattle.std.proofs.Common.{◌∙◌, ◌≤◌, ap, ap₂, arith, length, st
 use Rattle.std.proofs.lemmas.Result.{IfErr-weaker, IfOk-weaker}
 use Rattle.std.proofs.lemmas.List.{length-map}
 use Rattle.clap.specs.Words.{is_simple, subcommand_of, takes}
-use Rattle.run_words.proofs.Reading.{all_read, all_taken, line_is_simple}
-use Rattle.run_words.proofs.words.matches_of.Goals as goal
+use Rattle.pool_input.proofs.WordsReading.{all_read, all_taken, line_is_simple}
+use Rattle.pool_input.proofs.words.matches_of.Goals as goal
 
 pub returns-clause-found : goal.returns-clause-found
 returns-clause-found c =

@@ -1,9 +1,9 @@
 use Rattle.std.proofs.Common.{◌≡◌, ◌∙◌, ◌∷◌, refl, sym, ap, ap₂, codes, Some, option_map, unwrap_or}
 use Rattle.clap.specs.Words.{found_of, rows_of}
 use Rattle.clap.proofs.CallerLemmas.{some_of_text}
-use Rattle.run_words.specs.Command.{config_row, submit_rows, submits_of}
-use Rattle.run_words.proofs.Found.{rows_read, config_read, submits_read}
-use Rattle.run_words.proofs.words.found_files.Goals as goal
+use Rattle.pool_input.specs.Command.{config_row, submit_rows, submits_of}
+use Rattle.pool_input.proofs.Found.{rows_read, config_read, submits_read}
+use Rattle.pool_input.proofs.words.found_files.Goals as goal
 
 pub unwrap-config-requires : goal.unwrap-config-requires
 unwrap-config-requires c =

@@ -1,9 +1,9 @@
 ghost use Rattle.std.specs.Prelude.{◌≡◌, ◌↔◌, ℕ, List, Err, IfOk, IfErr};
 ghost use Rattle.clap.specs.Words.{found_of, kind_of, rows_of};
 ghost use Rattle.clap.specs.declared.error.kind.ErrorKind.TheVariants.{OutOfMemory};
-ghost use Rattle.run_words.specs.Words.{IsNoRun, IsOfForm, IsRun, file_names, texts};
-ghost use Rattle.run_words.specs.Command.{HasFiles, HasRead, submits_of};
-ghost use Rattle.run_words.specs.declared.words.WordsError.TheVariants.{Usage};
+ghost use Rattle.pool_input.specs.Words.{IsNoRun, IsOfForm, IsRun, file_names, texts};
+ghost use Rattle.pool_input.specs.Command.{HasFiles, HasRead, submits_of};
+ghost use Rattle.pool_input.specs.declared.words.WordsError.TheVariants.{Usage};
 
 use crate::command::{CONFIG, RUN, SUBMIT, command_line};
 use crate::form::is_run;

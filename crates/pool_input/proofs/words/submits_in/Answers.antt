@@ -2,8 +2,8 @@ use Rattle.std.proofs.Common.{◌∙◌, ap, codes, [], unwrap_or}
 use Rattle.std.proofs.lemmas.Result.{IfOk-weaker}
 use Rattle.clap.specs.Words.{found_of}
 use Rattle.clap.proofs.WalkLemmas.{raw_values-rows}
-use Rattle.run_words.specs.Words.{file_names}
-use Rattle.run_words.proofs.words.submits_in.Goals as goal
+use Rattle.pool_input.specs.Words.{file_names}
+use Rattle.pool_input.proofs.words.submits_in.Goals as goal
 
 pub returns-in-Some : goal.returns-in-Some
 returns-in-Some c =

@@ -4,8 +4,8 @@ use Rattle.clap.specs.Words.{Row, first_of, first_value, rows_of, subcommand_row
 use Rattle.clap.specs.declared.parser.matches.ArgMatches.{ArgMatches}
 use Rattle.clap.specs.declared.parser.matches.Found.{Found}
 use Rattle.clap.proofs.WalkLemmas.{first_value-rows}
-use Rattle.run_words.specs.Words.{IsRun}
-use Rattle.run_words.specs.Command.{HasRead, config_row, submit_rows, submits_of}
+use Rattle.pool_input.specs.Words.{IsRun}
+use Rattle.pool_input.specs.Command.{HasRead, config_row, submit_rows, submits_of}
 
 -- the rows of the command that was met
 pub rows_read : (m : ArgMatches) (rows : List Row) (config : List ℕ) (submits : List (List ℕ)) → HasRead m config submits

@@ -11,8 +11,8 @@ use Rattle.clap.specs.Takes.{bundle_passes, default_passes, entered_passes, flag
 use Rattle.std.specs.Option.{option_map_or}
 use Rattle.clap.proofs.SimpleLemmas.{is_false}
 use Rattle.clap.proofs.WalkLemmas.{both, walk_stopped}
-use Rattle.run_words.specs.Words.{is_plain}
-use Rattle.run_words.specs.Command.{command_line, config_row, config_rule, run_shape, submit_rows, submit_rule}
+use Rattle.pool_input.specs.Words.{is_plain}
+use Rattle.pool_input.specs.Command.{command_line, config_row, config_rule, run_shape, submit_rows, submit_rule}
 
 abbrev line : App
 line = built command_line

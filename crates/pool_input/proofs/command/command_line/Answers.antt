@@ -2,7 +2,7 @@ use Rattle.std.proofs.Common.{◌≡◌, ◌∙◌, ap₂, true, codes, rules}
 use Rattle.std.proofs.lemmas.Result.{IfOk-weaker}
 use Rattle.clap.specs.Words.{app_of, new_app, with_subcommand}
 use Rattle.clap.specs.Simple.{on_top}
-use Rattle.run_words.proofs.command.command_line.Goals as goal
+use Rattle.pool_input.proofs.command.command_line.Goals as goal
 
 pub returns : goal.returns
 returns c =

@@ -1,6 +1,6 @@
 ghost use Rattle.std.specs.Prelude.{MatchOption};
-ghost use Rattle.run_words.specs.Words.{texts};
-ghost use Rattle.run_words.specs.Questions.{Asks, AsksNothing, AsksAlone, IsNoQuestion};
+ghost use Rattle.pool_input.specs.Words.{texts};
+ghost use Rattle.pool_input.specs.Questions.{Asks, AsksNothing, AsksAlone, IsNoQuestion};
 
 /// What a lone word may ask for.
 #[derive(Clone, Copy)]

@@ -1,6 +1,6 @@
 ghost use Rattle.std.specs.Prelude.{◌≡◌, ◌≢◌, ◌∷◌, ℕ, List, true, false, MatchOption};
 ghost use Rattle.std.specs.List.{list_all};
-ghost use Rattle.run_words.specs.Words.{IsNoRun, IsOfForm, is_plain, texts};
+ghost use Rattle.pool_input.specs.Words.{IsNoRun, IsOfForm, is_plain, texts};
 
 use crate::command::RUN;
 

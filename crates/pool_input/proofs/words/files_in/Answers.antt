@@ -1,6 +1,6 @@
-use Rattle.run_words.specs.Words.{file_names, texts}
-use Rattle.run_words.proofs.Found.{as_named}
-use Rattle.run_words.proofs.words.files_in.Goals as goal
+use Rattle.pool_input.specs.Words.{file_names, texts}
+use Rattle.pool_input.proofs.Found.{as_named}
+use Rattle.pool_input.proofs.words.files_in.Goals as goal
 
 pub returns-clause-files : goal.returns-clause-files
 returns-clause-files c =

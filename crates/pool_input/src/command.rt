@@ -1,7 +1,7 @@
 ghost use Rattle.std.specs.Prelude.{◌≡◌, IfOk, false};
 ghost use Rattle.clap.specs.Words.{app_of, rule_of, shape_of};
 ghost use Rattle.clap.specs.declared.builder.command.Command.TheViews.{out-Command};
-ghost use Rattle.run_words.specs.Command.{command_line, config_rule, run_shape, submit_rule};
+ghost use Rattle.pool_input.specs.Command.{command_line, config_rule, run_shape, submit_rule};
 
 use clap::{Arg, Command};
 use std::alloc::{AllocError, Global};

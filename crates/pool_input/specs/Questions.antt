@@ -1,7 +1,7 @@
 -- What a lone word of the command asks for.
 use Rattle.std.specs.Prelude.{◌≡◌, ◌⊎◌, ℕ, List, [], ◌∷◌, codes}
-use Rattle.run_words.specs.declared.question.Question.{Question}
-use Rattle.run_words.specs.declared.question.Question.TheVariants.{Help, Version}
+use Rattle.pool_input.specs.declared.question.Question.{Question}
+use Rattle.pool_input.specs.declared.question.Question.TheVariants.{Help, Version}
 
 abbrev pub Asks : Question → List ℕ → Type 0
 Asks Help word = (word ≡ codes "--help") ⊎ (word ≡ codes "-h")
