@@ -11,7 +11,7 @@ use Rattle.queue_tx.specs.Kinds.{kind_of}
 use Rattle.queue_tx.specs.Queues.{ad_at}
 use Rattle.schedd_plan.specs.declared.plan.Completion.{Completion}
 use Rattle.schedd_plan.specs.declared.plan.JobPlan.TheVariants as plan
-use Rattle.schedd_table.specs.JobPlaces.{is_left}
+use Rattle.schedd_plan.specs.JobPlaces.{is_left}
 use Rattle.schedd_core.specs.JobStates.{ShowsState}
 use Rattle.schedd_core.proofs.PlanJobs.{Shown, kind_there, shown, there_under}
 use Rattle.pool_links.specs.Linked.{AwaitsPlan, IsLinked}

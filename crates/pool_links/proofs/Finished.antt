@@ -21,7 +21,7 @@ use Rattle.schedd_plan.specs.declared.plan.Completion.{Completion}
 use Rattle.schedd_plan.specs.declared.plan.JobPlan.{JobPlan}
 use Rattle.schedd_plan.specs.declared.plan.JobPlan.TheVariants as plan
 use Rattle.schedd_plan.specs.Plans.{job_of, plan_ops}
-use Rattle.schedd_table.specs.JobPlaces.{is_left}
+use Rattle.schedd_plan.specs.JobPlaces.{is_left}
 use Rattle.schedd_core.specs.JobStates.{ShowsJobs}
 use Rattle.schedd_core.specs.Logging.{numbered}
 use Rattle.schedd_core.specs.PlanChanges.{change_at, change_by, change_of, complete_change, held_change, how_of, idle_change}

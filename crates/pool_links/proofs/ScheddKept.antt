@@ -6,7 +6,7 @@ use Rattle.pool_view.specs.AbstractPool.{AbstractPool, IsIn, SameMembers}
 use Rattle.pool_view.specs.AbstractStep.{AbstractStep, Time, Queue, Acknowledge, Order, Grant, Start, Mark, Extend, Stop, Free, Finish, Hold, Release, Lengthen, view_after}
 use Rattle.queue_tx.specs.declared.key.Key.TheVariants.{Proc}
 use Rattle.queue_tx.specs.Queues.{ad_at}
-use Rattle.schedd_table.specs.declared.claims.KeptClaim.{KeptClaim}
+use Rattle.schedd_plan.specs.declared.claims.KeptClaim.{KeptClaim}
 use Rattle.schedd_core.specs.ScheddParts.{IsPart}
 use Rattle.pool_view.specs.Facts.{CanBeMade, Facts, IsOfJob}
 use Rattle.pool_view.specs.Safe.{Safe}

@@ -16,7 +16,7 @@ use Rattle.queue_tx.specs.Queues.{KeyedAds, ad_at, queue_after}
 use Rattle.schedd_plan.specs.declared.plan.JobPlan.{JobPlan}
 use Rattle.schedd_plan.specs.declared.plan.JobPlan.TheVariants as plan
 use Rattle.schedd_plan.specs.Plans.{job_of, plan_ops}
-use Rattle.schedd_table.specs.KeptRuns.{run_of}
+use Rattle.schedd_plan.specs.KeptRuns.{run_of}
 use Rattle.schedd_core.specs.Logging.{activates, after_plan, alives, is_stopped, mails_of_plan, numbered, run_of_job, stops}
 use Rattle.schedd_core.specs.PlanChanges.{change_by, lease_moves, moves_of_logged, told_leases}
 use Rattle.schedd_core.specs.ScheddParts.{Fits, IsLeased, IsPart}

@@ -20,9 +20,9 @@ use Rattle.schedd_plan.specs.declared.plan.JobPlan.TheVariants as plan
 use Rattle.schedd_plan.specs.Plans.{plan_ops}
 use Rattle.schedd_plan.specs.declared.status.JobStatus.{JobStatus}
 use Rattle.schedd_plan.specs.JobAttributes.{status_of}
-use Rattle.schedd_table.specs.JobPlaces.{is_left, kind_place, place_by}
-use Rattle.schedd_table.specs.MailTable.{order_row}
-use Rattle.schedd_table.specs.OrderTable.{remove_plan}
+use Rattle.schedd_plan.specs.JobPlaces.{is_left, kind_place, place_by}
+use Rattle.schedd_plan.specs.MailTable.{order_row}
+use Rattle.schedd_plan.specs.OrderTable.{remove_plan}
 use Rattle.schedd_state.specs.declared.answer.ScheddStep.{ScheddStep}
 use Rattle.schedd_core.specs.Checks.{after_check}
 use Rattle.schedd_core.specs.JobStates.{ShowsJobs}

@@ -24,23 +24,23 @@ use Rattle.schedd_plan.specs.declared.reason.Reason.{Reason}
 use Rattle.schedd_plan.specs.declared.reason.Reason.TheVariants.{ByCommand, ByPolicy}
 use Rattle.schedd_plan.specs.declared.status.JobStatus.{JobStatus}
 use Rattle.schedd_plan.specs.declared.status.JobStatus.TheVariants as status
-use Rattle.schedd_table.specs.declared.claims.KeptClaim.{KeptClaim}
-use Rattle.schedd_table.specs.declared.claims.Stage.{Stage}
-use Rattle.schedd_table.specs.declared.claims.Stage.TheVariants as stage
-use Rattle.schedd_table.specs.declared.mail.Fate.{Fate}
-use Rattle.schedd_table.specs.declared.mail.Fate.TheVariants as fate
-use Rattle.schedd_table.specs.declared.mail.MailRow.TheVariants as row
-use Rattle.schedd_table.specs.declared.places.JobPlace.{JobPlace}
-use Rattle.schedd_table.specs.declared.places.JobPlace.TheVariants as place
-use Rattle.schedd_table.specs.declared.runs.KeptRun.{KeptRun}
-use Rattle.schedd_table.specs.declared.tick.TickLine.{TickLine}
-use Rattle.schedd_table.specs.declared.tick.TickLine.TheVariants as line
-use Rattle.schedd_table.specs.EndTable.{ended_ad_plan, is_asked_by}
-use Rattle.schedd_table.specs.JobPlaces.{job_place, let_go}
-use Rattle.schedd_table.specs.KeptClaims.{place_of_claim, engages, staged, with_stage, named, with_job, claims_without}
-use Rattle.schedd_table.specs.KeptRuns.{place_of_run}
-use Rattle.schedd_table.specs.MailTable.{is_idle_place, granted_at, granted_row, is_spent_why, denied_claim, denied_row, order_row, fate_of_gone, is_leaving_in, fate_in, after_fate}
-use Rattle.schedd_table.specs.OrderTable.{remove_plan, hold_left, hold_under, hold_plan, resume_plan, resume_marked, can_be_held, is_waiting}
+use Rattle.schedd_plan.specs.declared.claims.KeptClaim.{KeptClaim}
+use Rattle.schedd_plan.specs.declared.claims.Stage.{Stage}
+use Rattle.schedd_plan.specs.declared.claims.Stage.TheVariants as stage
+use Rattle.schedd_plan.specs.declared.mail.Fate.{Fate}
+use Rattle.schedd_plan.specs.declared.mail.Fate.TheVariants as fate
+use Rattle.schedd_plan.specs.declared.mail.MailRow.TheVariants as row
+use Rattle.schedd_plan.specs.declared.places.JobPlace.{JobPlace}
+use Rattle.schedd_plan.specs.declared.places.JobPlace.TheVariants as place
+use Rattle.schedd_plan.specs.declared.runs.KeptRun.{KeptRun}
+use Rattle.schedd_plan.specs.declared.tick.TickLine.{TickLine}
+use Rattle.schedd_plan.specs.declared.tick.TickLine.TheVariants as line
+use Rattle.schedd_plan.specs.EndTable.{ended_ad_plan, is_asked_by}
+use Rattle.schedd_plan.specs.JobPlaces.{job_place, let_go}
+use Rattle.schedd_plan.specs.KeptClaims.{place_of_claim, engages, staged, with_stage, named, with_job, claims_without}
+use Rattle.schedd_plan.specs.KeptRuns.{place_of_run}
+use Rattle.schedd_plan.specs.MailTable.{is_idle_place, granted_at, granted_row, is_spent_why, denied_claim, denied_row, order_row, fate_of_gone, is_leaving_in, fate_in, after_fate}
+use Rattle.schedd_plan.specs.OrderTable.{remove_plan, hold_left, hold_under, hold_plan, resume_plan, resume_marked, can_be_held, is_waiting}
 use Rattle.schedd_state.specs.declared.answer.ScheddStep.{ScheddStep}
 use Rattle.schedd_core.specs.Checks.{after_check, after_check_by, policy_plan, with_look}
 use Rattle.schedd_core.specs.Rows.{after_mail, after_row, asked_in, claim_asked, ended_at, ended_row, ended_with, gone_at, gone_row, known_job, mail_row, noted_in, run_at, seen_at, stage_known}

@@ -19,7 +19,7 @@ use Rattle.queue_tx.specs.declared.kind.JobKind.TheVariants as kind
 use Rattle.queue_tx.specs.Kinds.{kind_of}
 use Rattle.queue_tx.specs.Operations.{Operation}
 use Rattle.queue_tx.specs.Queues.{KeyedAds, ad_at, queue_after}
-use Rattle.schedd_table.specs.JobPlaces.{is_left}
+use Rattle.schedd_plan.specs.JobPlaces.{is_left}
 use Rattle.schedd_core.specs.JobStates.{ShowsEntry, ShowsJob, ShowsJobs}
 use Rattle.schedd_state.specs.Reopening.{is_under_at, is_under_kind, under_by}
 use Rattle.schedd_core.specs.ScheddParts.{Fits, IsMarked, IsPart}

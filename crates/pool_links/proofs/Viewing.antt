@@ -20,7 +20,7 @@ use Rattle.queue_tx.specs.declared.kind.JobKind.{JobKind}
 use Rattle.queue_tx.specs.declared.kind.JobKind.TheVariants as kind
 use Rattle.queue_tx.specs.Kinds.{kind_of}
 use Rattle.queue_tx.specs.Queues.{ad_at}
-use Rattle.schedd_table.specs.JobPlaces.{is_left}
+use Rattle.schedd_plan.specs.JobPlaces.{is_left}
 use Rattle.schedd_core.specs.JobStates.{ShowsEntry, ShowsJob, ShowsJobs, ShowsState}
 use Rattle.schedd_core.specs.ScheddParts.{IsPart}
 use Rattle.schedd_core.proofs.PlanAds.{run_kind}

@@ -24,7 +24,7 @@ use Rattle.queue_tx.specs.Queues.{KeyedAds, ad_at, queue_after}
 use Rattle.schedd_plan.specs.declared.plan.JobPlan.{JobPlan}
 use Rattle.schedd_plan.specs.declared.plan.JobPlan.TheVariants as plan
 use Rattle.schedd_plan.specs.Plans.{plan_ops}
-use Rattle.schedd_table.specs.declared.claims.KeptClaim.{KeptClaim}
+use Rattle.schedd_plan.specs.declared.claims.KeptClaim.{KeptClaim}
 use Rattle.schedd_core.specs.Logging.{IsReopened, after_plan}
 use Rattle.schedd_core.specs.PlanChanges.{change_of}
 use Rattle.schedd_core.specs.ScheddParts.{Fits, IsFitting, IsHeard, IsOrdered, IsPart}

@@ -38,11 +38,11 @@ use Rattle.schedd_plan.specs.declared.plan.JobPlan.{JobPlan}
 use Rattle.schedd_plan.specs.declared.reason.Reason.TheVariants.{ByPolicy}
 use Rattle.schedd_plan.specs.declared.status.JobStatus.{JobStatus}
 use Rattle.schedd_plan.specs.declared.status.JobStatus.TheVariants as status
-use Rattle.schedd_table.specs.EndTable.{is_asked_by}
-use Rattle.schedd_table.specs.JobPlaces.{job_place}
-use Rattle.schedd_table.specs.OrderTable.{can_be_held, hold_left, hold_plan, hold_under, is_waiting, remove_plan, resume_marked, resume_plan}
-use Rattle.schedd_table.specs.declared.places.JobPlace.{JobPlace}
-use Rattle.schedd_table.specs.declared.places.JobPlace.TheVariants as place
+use Rattle.schedd_plan.specs.EndTable.{is_asked_by}
+use Rattle.schedd_plan.specs.JobPlaces.{job_place}
+use Rattle.schedd_plan.specs.OrderTable.{can_be_held, hold_left, hold_plan, hold_under, is_waiting, remove_plan, resume_marked, resume_plan}
+use Rattle.schedd_plan.specs.declared.places.JobPlace.{JobPlace}
+use Rattle.schedd_plan.specs.declared.places.JobPlace.TheVariants as place
 use Rattle.startd_core.specs.Startds.{StartdValue, after_end, after_mail, after_reboot, after_tick}
 use Rattle.pool_safety.specs.Orders.{OrdersRemoval}
 

@@ -23,22 +23,22 @@ use Rattle.schedd_plan.specs.declared.status.JobStatus.TheVariants as status
 use Rattle.schedd_state.specs.DueLines.{tick_line}
 use Rattle.schedd_state.specs.Schedds.{ScheddValue, waits_for}
 use Rattle.schedd_state.specs.declared.answer.ScheddStep.{ScheddStep}
-use Rattle.schedd_table.specs.EndTable.{ended_ad_plan, is_asked_by}
-use Rattle.schedd_table.specs.JobPlaces.{job_place, let_go}
-use Rattle.schedd_table.specs.KeptClaims.{engages, place_of_claim}
-use Rattle.schedd_table.specs.KeptRuns.{place_of_run}
-use Rattle.schedd_table.specs.MailTable.{denied_claim, denied_row, denied_run, fate_of_gone, granted_at, granted_row, is_idle_place, is_spent_why, order_row}
-use Rattle.schedd_table.specs.OrderTable.{can_be_held, hold_left, hold_plan, hold_under, is_waiting, remove_plan, resume_marked, resume_plan}
-use Rattle.schedd_table.specs.declared.claims.KeptClaim.{KeptClaim}
-use Rattle.schedd_table.specs.declared.claims.Stage.{Stage}
-use Rattle.schedd_table.specs.declared.claims.Stage.TheVariants as stage
-use Rattle.schedd_table.specs.declared.mail.MailRow.{MailRow}
-use Rattle.schedd_table.specs.declared.mail.MailRow.TheVariants as row
-use Rattle.schedd_table.specs.declared.places.JobPlace.{JobPlace}
-use Rattle.schedd_table.specs.declared.places.JobPlace.TheVariants as place
-use Rattle.schedd_table.specs.declared.runs.KeptRun.{KeptRun}
-use Rattle.schedd_table.specs.declared.tick.TickLine.{TickLine}
-use Rattle.schedd_table.specs.declared.tick.TickLine.TheVariants as line
+use Rattle.schedd_plan.specs.EndTable.{ended_ad_plan, is_asked_by}
+use Rattle.schedd_plan.specs.JobPlaces.{job_place, let_go}
+use Rattle.schedd_plan.specs.KeptClaims.{engages, place_of_claim}
+use Rattle.schedd_plan.specs.KeptRuns.{place_of_run}
+use Rattle.schedd_plan.specs.MailTable.{denied_claim, denied_row, denied_run, fate_of_gone, granted_at, granted_row, is_idle_place, is_spent_why, order_row}
+use Rattle.schedd_plan.specs.OrderTable.{can_be_held, hold_left, hold_plan, hold_under, is_waiting, remove_plan, resume_marked, resume_plan}
+use Rattle.schedd_plan.specs.declared.claims.KeptClaim.{KeptClaim}
+use Rattle.schedd_plan.specs.declared.claims.Stage.{Stage}
+use Rattle.schedd_plan.specs.declared.claims.Stage.TheVariants as stage
+use Rattle.schedd_plan.specs.declared.mail.MailRow.{MailRow}
+use Rattle.schedd_plan.specs.declared.mail.MailRow.TheVariants as row
+use Rattle.schedd_plan.specs.declared.places.JobPlace.{JobPlace}
+use Rattle.schedd_plan.specs.declared.places.JobPlace.TheVariants as place
+use Rattle.schedd_plan.specs.declared.runs.KeptRun.{KeptRun}
+use Rattle.schedd_plan.specs.declared.tick.TickLine.{TickLine}
+use Rattle.schedd_plan.specs.declared.tick.TickLine.TheVariants as line
 use Rattle.schedd_core.specs.Checks.{after_check, after_check_by, policy_plan, with_look}
 use Rattle.schedd_core.specs.Rows.{after_mail, after_row, asked_in, ended_at, ended_row, ended_with, gone_at, gone_row, known_job, mail_row, run_at, seen_at, stage_known}
 use Rattle.schedd_core.specs.Ticks.{IsTicked, after_grant, after_give_up, after_lengthen, after_line, after_past, granted_by, lengthened_by}

@@ -36,7 +36,7 @@ use Rattle.schedd_core.proofs.QueueChanges.{same_proc}
 use Rattle.schedd_core.specs.JobStates.{NamesRun, ShowsJob, ShowsState}
 use Rattle.schedd_state.specs.Reopening.{IsReader, claim_by, claim_in}
 use Rattle.schedd_core.specs.ScheddParts.{IsThere}
-use Rattle.schedd_table.specs.JobPlaces.{is_left}
+use Rattle.schedd_plan.specs.JobPlaces.{is_left}
 use Rattle.pool_safety.specs.Kept.{IsKept}
 use Rattle.pool_safety.proofs.PoolOpening.{there_listed}
 

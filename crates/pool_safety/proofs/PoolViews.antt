@@ -31,7 +31,7 @@ use Rattle.queue_tx.specs.Queues as queues
 use Rattle.queue_tx.specs.declared.key.Key.TheVariants.{Proc}
 use Rattle.schedd_core.specs.JobStates.{ShowsJob}
 use Rattle.schedd_state.specs.Reopening.{IsReader}
-use Rattle.schedd_table.specs.JobPlaces.{is_left}
+use Rattle.schedd_plan.specs.JobPlaces.{is_left}
 use Rattle.startd_core.specs.Startds.{StartdValue}
 use Rattle.startd_slot.specs.SlotMoves.{mark_of, part_of}
 use Rattle.startd_slot.specs.declared.slot.Slot.{Slot}

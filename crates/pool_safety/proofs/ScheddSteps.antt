@@ -24,11 +24,11 @@ use Rattle.schedd_core.specs.Logging.{numbered, run_of_job}
 use Rattle.schedd_core.specs.PlanChanges.{Jobs, change_at, change_by, lease_moves, moves_of_logged, moves_of_mail, moves_of_order, pends, told_leases}
 use Rattle.schedd_core.specs.Rows.{after_mail, after_row, mail_row}
 use Rattle.schedd_state.specs.Schedds.{ScheddValue}
-use Rattle.schedd_table.specs.JobPlaces.{job_place}
-use Rattle.schedd_table.specs.MailTable.{order_row}
-use Rattle.schedd_table.specs.OrderTable.{remove_plan}
-use Rattle.schedd_table.specs.declared.places.JobPlace.{JobPlace}
-use Rattle.schedd_table.specs.declared.places.JobPlace.TheVariants as place
+use Rattle.schedd_plan.specs.JobPlaces.{job_place}
+use Rattle.schedd_plan.specs.MailTable.{order_row}
+use Rattle.schedd_plan.specs.OrderTable.{remove_plan}
+use Rattle.schedd_plan.specs.declared.places.JobPlace.{JobPlace}
+use Rattle.schedd_plan.specs.declared.places.JobPlace.TheVariants as place
 use Rattle.schedd_plan.specs.declared.plan.JobPlan.{JobPlan}
 use Rattle.schedd_plan.specs.declared.plan.JobPlan.TheVariants as plan
 use Rattle.schedd_plan.specs.Plans.{job_of}

@@ -9,7 +9,7 @@ use Rattle.pool_outer.specs.declared.gate.Daemon.TheVariants.{Schedd}
 use Rattle.pool_state.specs.declared.state.PoolState.{PoolState}
 use Rattle.queue_tx.specs.declared.key.Key.TheVariants.{Proc}
 use Rattle.queue_tx.specs.Queues.{ad_at}
-use Rattle.schedd_table.specs.EndTable.{is_asked_by}
+use Rattle.schedd_plan.specs.EndTable.{is_asked_by}
 
 -- The schedd receives a Remove of the job, or looks at the job while its PeriodicRemove holds.
 abbrev pub OrdersRemoval : Event → PoolState → JobId → Type 0

@@ -18,7 +18,7 @@ use Rattle.queue_tx.specs.Kinds.{kind_of}
 use Rattle.queue_tx.specs.Queues.{KeyedAds, ad_at}
 use Rattle.schedd_state.specs.Reopening.{claim_in}
 use Rattle.schedd_plan.specs.JobAttributes.{lease_until, run_number}
-use Rattle.schedd_table.specs.JobPlaces.{is_left}
+use Rattle.schedd_plan.specs.JobPlaces.{is_left}
 
 -- ---- one job of the queue, by a reader of claims
 abbrev pub run_by : Option ClaimId → Option ℕ → Option RunNo

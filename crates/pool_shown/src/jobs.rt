@@ -14,7 +14,7 @@ use claim_id::JobId;
 use pool_parts::{Finished, jobs_of_kind};
 use pool_view::{Entry, JobEntry, JobEntryList};
 use queue_tx::{JobKind, Key, Queue};
-use schedd_table::{LeftJobs, is_left};
+use schedd_plan::{LeftJobs, is_left};
 use std::alloc::Global;
 
 /// The jobs of a queue, of which some were left by an earlier boot of the pool, by kind and in

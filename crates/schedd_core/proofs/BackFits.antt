@@ -17,9 +17,9 @@ use Rattle.queue_tx.specs.declared.key.Key.TheVariants.{Proc}
 use Rattle.queue_tx.specs.Keys.{key_cmp, key_cmp_total, same_key_laws}
 use Rattle.queue_tx.specs.Queues.{KeyedAds, ad_at}
 use Rattle.schedd_plan.specs.JobAttributes.{run_number}
-use Rattle.schedd_table.specs.declared.claims.KeptClaim.{KeptClaim}
-use Rattle.schedd_table.specs.declared.runs.KeptRun.{KeptRun}
-use Rattle.schedd_table.specs.JobPlaces.{is_left}
+use Rattle.schedd_plan.specs.declared.claims.KeptClaim.{KeptClaim}
+use Rattle.schedd_plan.specs.declared.runs.KeptRun.{KeptRun}
+use Rattle.schedd_plan.specs.JobPlaces.{is_left}
 use Rattle.schedd_core.specs.JobStates.{NamesRun}
 use Rattle.schedd_core.specs.Logging.{reopened, IsReopened}
 use Rattle.schedd_state.specs.Reopening.{IsReader, claim_by, claim_in, run_named, run_by, found_run, one_run, found_behind, found_runs, one_claim, claims_behind, found_claims, under_by, is_under_at, still_left}

@@ -17,9 +17,9 @@ use Rattle.queue_tx.specs.Queues.{KeyedAds, ad_at, queue_after}
 use Rattle.schedd_plan.specs.declared.plan.JobPlan.{JobPlan}
 use Rattle.schedd_plan.specs.declared.plan.JobPlan.TheVariants as plan
 use Rattle.schedd_plan.specs.Plans.{job_of, plan_ops}
-use Rattle.schedd_table.specs.declared.claims.KeptClaim.{KeptClaim}
-use Rattle.schedd_table.specs.declared.runs.KeptRun.{KeptRun}
-use Rattle.schedd_table.specs.JobPlaces.{is_left, taken_off}
+use Rattle.schedd_plan.specs.declared.claims.KeptClaim.{KeptClaim}
+use Rattle.schedd_plan.specs.declared.runs.KeptRun.{KeptRun}
+use Rattle.schedd_plan.specs.JobPlaces.{is_left, taken_off}
 use Rattle.schedd_core.specs.JobStates.{NamesRun}
 use Rattle.schedd_core.specs.Logging.{after_plan}
 use Rattle.schedd_state.specs.Reopening.{is_under_kind, under_by, is_under_at}

@@ -14,8 +14,8 @@ use Rattle.schedd_plan.specs.declared.reason.Reason.TheVariants.{ByPolicy}
 use Rattle.schedd_plan.specs.declared.status.JobStatus.{JobStatus}
 use Rattle.schedd_plan.specs.declared.status.JobStatus.TheVariants as status
 use Rattle.schedd_plan.specs.JobAttributes.{status_of}
-use Rattle.schedd_table.specs.EndTable.{is_asked_by, ad_after_exit, is_remove_asked, plan_at_end, completed_plan, unmarked_plan, failed_plan, completion_of, plan_of_end, ended_ad_plan}
-use Rattle.schedd_table.specs.JobPlaces.{is_left, let_go_by, let_go_in, let_go}
+use Rattle.schedd_plan.specs.EndTable.{is_asked_by, ad_after_exit, is_remove_asked, plan_at_end, completed_plan, unmarked_plan, failed_plan, completion_of, plan_of_end, ended_ad_plan}
+use Rattle.schedd_plan.specs.JobPlaces.{is_left, let_go_by, let_go_in, let_go}
 use Rattle.schedd_state.specs.Reopening.{is_under_at}
 use Rattle.schedd_core.specs.ScheddParts.{IsThere, IsFitting}
 use Rattle.schedd_core.proofs.FitsAfter.{Frees}

@@ -17,7 +17,7 @@ use Rattle.queue_tx.specs.Queues.{KeyedAds, ad_at, queue_after}
 use Rattle.schedd_plan.specs.declared.plan.JobPlan.{JobPlan}
 use Rattle.schedd_plan.specs.declared.plan.JobPlan.TheVariants as plan
 use Rattle.schedd_plan.specs.Plans.{job_of, plan_ops}
-use Rattle.schedd_table.specs.JobPlaces.{is_left, taken_off}
+use Rattle.schedd_plan.specs.JobPlaces.{is_left, taken_off}
 use Rattle.schedd_core.specs.JobStates.{ShowsState, ShowsJob, ShowsJobs}
 use Rattle.schedd_core.specs.Logging.{after_plan, reopened, IsReopened}
 use Rattle.schedd_state.specs.Reopening.{IsReader, next_after, is_under_kind, under_by, is_under_at, still_left, found_runs, found_claims}

@@ -25,21 +25,21 @@ use Rattle.schedd_plan.specs.declared.status.JobStatus.{JobStatus}
 use Rattle.schedd_plan.specs.declared.status.JobStatus.TheVariants as status
 use Rattle.schedd_plan.specs.Plans.{job_of, plan_ops}
 use Rattle.schedd_plan.specs.JobAttributes.{lease_until}
-use Rattle.schedd_table.specs.declared.claims.KeptClaim.{KeptClaim}
-use Rattle.schedd_table.specs.declared.mail.MailRow.{MailRow}
-use Rattle.schedd_table.specs.declared.mail.MailRow.TheVariants as row
-use Rattle.schedd_table.specs.declared.places.JobPlace.{JobPlace}
-use Rattle.schedd_table.specs.declared.places.JobPlace.TheVariants as place
-use Rattle.schedd_table.specs.declared.runs.KeptRun.{KeptRun}
-use Rattle.schedd_table.specs.declared.tick.TickLine.{TickLine}
-use Rattle.schedd_table.specs.declared.tick.TickLine.TheVariants as line
-use Rattle.schedd_table.specs.EndTable.{ended_ad_plan, is_asked_by}
-use Rattle.schedd_table.specs.JobPlaces.{job_place, let_go}
-use Rattle.schedd_table.specs.KeptClaims.{place_of_claim, engages}
-use Rattle.schedd_table.specs.KeptRuns.{place_of_run}
-use Rattle.schedd_table.specs.MailTable.{is_idle_place, granted_row, denied_row, order_row}
-use Rattle.schedd_table.specs.OrderTable.{remove_plan, hold_plan, resume_plan, resume_marked, can_be_held, is_waiting}
-use Rattle.schedd_table.specs.TickTable.{lease_end}
+use Rattle.schedd_plan.specs.declared.claims.KeptClaim.{KeptClaim}
+use Rattle.schedd_plan.specs.declared.mail.MailRow.{MailRow}
+use Rattle.schedd_plan.specs.declared.mail.MailRow.TheVariants as row
+use Rattle.schedd_plan.specs.declared.places.JobPlace.{JobPlace}
+use Rattle.schedd_plan.specs.declared.places.JobPlace.TheVariants as place
+use Rattle.schedd_plan.specs.declared.runs.KeptRun.{KeptRun}
+use Rattle.schedd_plan.specs.declared.tick.TickLine.{TickLine}
+use Rattle.schedd_plan.specs.declared.tick.TickLine.TheVariants as line
+use Rattle.schedd_plan.specs.EndTable.{ended_ad_plan, is_asked_by}
+use Rattle.schedd_plan.specs.JobPlaces.{job_place, let_go}
+use Rattle.schedd_plan.specs.KeptClaims.{place_of_claim, engages}
+use Rattle.schedd_plan.specs.KeptRuns.{place_of_run}
+use Rattle.schedd_plan.specs.MailTable.{is_idle_place, granted_row, denied_row, order_row}
+use Rattle.schedd_plan.specs.OrderTable.{remove_plan, hold_plan, resume_plan, resume_marked, can_be_held, is_waiting}
+use Rattle.schedd_plan.specs.TickTable.{lease_end}
 use Rattle.schedd_state.specs.declared.answer.ScheddStep.{ScheddStep}
 use Rattle.schedd_core.specs.Checks.{policy_plan, after_check_by, after_check, with_look}
 use Rattle.schedd_core.specs.JobStates.{NamesRun}

@@ -7,9 +7,9 @@ use Rattle.claim_id.specs.declared.numbers.RunNo.{RunNo}
 use Rattle.pool_view.specs.AbstractPool.{IsIn}
 use Rattle.queue_tx.specs.declared.key.Key.TheVariants.{Proc}
 use Rattle.queue_tx.specs.Queues.{KeyedAds, ad_at}
-use Rattle.schedd_table.specs.declared.claims.KeptClaim.{KeptClaim}
-use Rattle.schedd_table.specs.declared.runs.KeptRun.{KeptRun}
-use Rattle.schedd_table.specs.JobPlaces.{is_left}
+use Rattle.schedd_plan.specs.declared.claims.KeptClaim.{KeptClaim}
+use Rattle.schedd_plan.specs.declared.runs.KeptRun.{KeptRun}
+use Rattle.schedd_plan.specs.JobPlaces.{is_left}
 use Rattle.schedd_core.specs.Logging.{run_of_job, reopened, IsReopened}
 use Rattle.schedd_state.specs.Reopening.{IsReader, one_claim, claims_behind, found_claims, found_runs, still_left}
 use Rattle.schedd_core.specs.ScheddParts.{Fits}

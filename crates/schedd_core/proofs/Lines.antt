@@ -9,17 +9,17 @@ use Rattle.queue_tx.specs.declared.kind.JobKind.TheVariants as kind
 use Rattle.queue_tx.specs.Jobs.{IsJobOf, kind_under}
 use Rattle.queue_tx.specs.Kinds.{kind_of}
 use Rattle.queue_tx.specs.Queues.{KeyedAds, ad_at}
-use Rattle.schedd_table.specs.declared.claims.KeptClaim.{KeptClaim}
-use Rattle.schedd_table.specs.declared.claims.Stage.{Stage}
-use Rattle.schedd_table.specs.declared.claims.Stage.TheVariants as stage
-use Rattle.schedd_table.specs.declared.runs.KeptRun.{KeptRun}
-use Rattle.schedd_table.specs.declared.tick.RunLine.{RunLine}
-use Rattle.schedd_table.specs.declared.tick.RunLine.TheVariants as of_run
-use Rattle.schedd_table.specs.declared.tick.TickLine.{TickLine}
-use Rattle.schedd_table.specs.declared.tick.TickLine.TheVariants as line
-use Rattle.schedd_table.specs.JobPlaces.{is_idle, is_idle_by, is_idle_at}
-use Rattle.schedd_table.specs.KeptRuns.{has_job_under}
-use Rattle.schedd_table.specs.TickTable.{is_past, is_quiet, line_of_run, run_line_by, run_line, due_run, asked_line, ready_line, leaving_line, staged_line, claim_line, due_claim, line_at_run, line_at_claim, is_after}
+use Rattle.schedd_plan.specs.declared.claims.KeptClaim.{KeptClaim}
+use Rattle.schedd_plan.specs.declared.claims.Stage.{Stage}
+use Rattle.schedd_plan.specs.declared.claims.Stage.TheVariants as stage
+use Rattle.schedd_plan.specs.declared.runs.KeptRun.{KeptRun}
+use Rattle.schedd_plan.specs.declared.tick.RunLine.{RunLine}
+use Rattle.schedd_plan.specs.declared.tick.RunLine.TheVariants as of_run
+use Rattle.schedd_plan.specs.declared.tick.TickLine.{TickLine}
+use Rattle.schedd_plan.specs.declared.tick.TickLine.TheVariants as line
+use Rattle.schedd_plan.specs.JobPlaces.{is_idle, is_idle_by, is_idle_at}
+use Rattle.schedd_plan.specs.KeptRuns.{has_job_under}
+use Rattle.schedd_plan.specs.TickTable.{is_past, is_quiet, line_of_run, run_line_by, run_line, due_run, asked_line, ready_line, leaving_line, staged_line, claim_line, due_claim, line_at_run, line_at_claim, is_after}
 use Rattle.schedd_state.specs.Schedds.{ScheddValue}
 use Rattle.schedd_state.specs.DueLines.{line_of_known, line_of_place, line_in_claim, line_of_claim, line_of_due_claim, line_of_claims, comes_first, line_of_jobs, tick_line}
 use Rattle.schedd_core.specs.Ticks.{IsSought, IsSoughtBy}

@@ -20,9 +20,9 @@ use Rattle.schedd_plan.specs.declared.plan.JobPlan.{JobPlan}
 use Rattle.schedd_plan.specs.declared.plan.JobPlan.TheVariants as plan
 use Rattle.schedd_plan.specs.Plans.{job_of, plan_ops}
 use Rattle.schedd_plan.specs.JobAttributes.{lease_until, status_by, status_of}
-use Rattle.schedd_table.specs.declared.runs.KeptRun.{KeptRun}
-use Rattle.schedd_table.specs.JobPlaces.{is_left}
-use Rattle.schedd_table.specs.KeptRuns.{run_of, is_of_job, place_of_job}
+use Rattle.schedd_plan.specs.declared.runs.KeptRun.{KeptRun}
+use Rattle.schedd_plan.specs.JobPlaces.{is_left}
+use Rattle.schedd_plan.specs.KeptRuns.{run_of, is_of_job, place_of_job}
 use Rattle.schedd_core.specs.JobStates.{NamesRun}
 use Rattle.schedd_core.specs.Logging.{run_in, run_at_place, run_of_job, stops, is_marked, is_stopped_by, is_stopped, alives, activates, numbered, mails_of_plan, after_plan}
 use Rattle.schedd_core.specs.PlanChanges.{change_of, lease_moves, told_leases, moves_of_logged}

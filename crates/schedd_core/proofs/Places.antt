@@ -4,7 +4,7 @@ use Rattle.std.specs.Prelude.{slice_set, insert, remove}
 use Rattle.std.proofs.lemmas.List.Quantifiers.{position-Some}
 use Rattle.std.proofs.lemmas.Option.{get_or_from_slice_get}
 use Rattle.pool_view.specs.AbstractPool.{IsIn}
-use Rattle.schedd_table.specs.declared.runs.KeptRun.{KeptRun}
+use Rattle.schedd_plan.specs.declared.runs.KeptRun.{KeptRun}
 use Rattle.schedd_core.specs.ScheddParts.{AreOfDifferentJobs}
 
 pub in_at : {A : Type 0} (xs : List A) (i : ℕ) (x : A) → slice_get xs i ≡ Some x → IsIn x xs

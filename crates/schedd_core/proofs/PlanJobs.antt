@@ -25,7 +25,7 @@ use Rattle.schedd_plan.specs.declared.plan.Completion.TheVariants.{Exited, Signa
 use Rattle.schedd_plan.specs.declared.plan.JobPlan.{JobPlan}
 use Rattle.schedd_plan.specs.declared.plan.JobPlan.TheVariants as plan
 use Rattle.schedd_plan.specs.Plans.{job_of, plan_ops, run_ops, next_run_ops, header_op}
-use Rattle.schedd_table.specs.JobPlaces.{is_left, taken_off}
+use Rattle.schedd_plan.specs.JobPlaces.{is_left, taken_off}
 use Rattle.schedd_core.specs.JobStates.{NamesRun, ShowsState, ShowsEntry, ShowsJob, ShowsJobs, IsDone}
 use Rattle.schedd_core.specs.Logging.{numbered}
 use Rattle.schedd_core.specs.PlanChanges.{Jobs, idle_change, held_change, complete_change, change_at, change_by, change_of, how_of}

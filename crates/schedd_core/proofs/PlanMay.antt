@@ -34,10 +34,10 @@ use Rattle.schedd_plan.specs.declared.status.JobStatus.{JobStatus}
 use Rattle.schedd_plan.specs.declared.status.JobStatus.TheVariants as status
 use Rattle.schedd_plan.specs.Plans.{job_of}
 use Rattle.schedd_plan.specs.JobAttributes.{status_of}
-use Rattle.schedd_table.specs.declared.runs.KeptRun.{KeptRun}
-use Rattle.schedd_table.specs.EndTable.{is_asked_by, ad_after_exit, is_remove_asked, plan_at_end, completed_plan, unmarked_plan, failed_plan, completion_of, plan_of_end, ended_ad_plan}
-use Rattle.schedd_table.specs.JobPlaces.{is_left, let_go_by, let_go_in, let_go}
-use Rattle.schedd_table.specs.KeptRuns.{run_of, is_run}
+use Rattle.schedd_plan.specs.declared.runs.KeptRun.{KeptRun}
+use Rattle.schedd_plan.specs.EndTable.{is_asked_by, ad_after_exit, is_remove_asked, plan_at_end, completed_plan, unmarked_plan, failed_plan, completion_of, plan_of_end, ended_ad_plan}
+use Rattle.schedd_plan.specs.JobPlaces.{is_left, let_go_by, let_go_in, let_go}
+use Rattle.schedd_plan.specs.KeptRuns.{run_of, is_run}
 use Rattle.schedd_core.specs.JobStates.{NamesRun, ShowsState}
 use Rattle.schedd_core.specs.PlanChanges.{idle_change, held_change, change_at, change_by, how_of, pends}
 use Rattle.schedd_core.specs.ScheddParts.{IsPart, IsUnderRun}

@@ -10,10 +10,10 @@ use Rattle.queue_tx.specs.Keys.{key_cmp}
 use Rattle.queue_tx.specs.Queues.{KeyedAds, ad_at}
 use Rattle.schedd_plan.specs.declared.plan.JobPlan.{JobPlan}
 use Rattle.schedd_plan.specs.declared.reason.Reason.TheVariants.{ByPolicy}
-use Rattle.schedd_table.specs.declared.places.JobPlace.{JobPlace}
-use Rattle.schedd_table.specs.EndTable.{is_asked_by}
-use Rattle.schedd_table.specs.JobPlaces.{job_place}
-use Rattle.schedd_table.specs.OrderTable.{remove_plan, hold_plan, resume_plan, can_be_held, is_waiting}
+use Rattle.schedd_plan.specs.declared.places.JobPlace.{JobPlace}
+use Rattle.schedd_plan.specs.EndTable.{is_asked_by}
+use Rattle.schedd_plan.specs.JobPlaces.{job_place}
+use Rattle.schedd_plan.specs.OrderTable.{remove_plan, hold_plan, resume_plan, can_be_held, is_waiting}
 use Rattle.schedd_state.specs.Schedds.{ScheddValue, After, becomes, waits_for}
 
 -- ---- what it does

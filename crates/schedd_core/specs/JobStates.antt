@@ -16,7 +16,7 @@ use Rattle.queue_tx.specs.declared.kind.JobKind.TheVariants as kind
 use Rattle.queue_tx.specs.Kinds.{kind_of}
 use Rattle.queue_tx.specs.Queues.{KeyedAds, ad_at}
 use Rattle.schedd_plan.specs.JobAttributes.{lease_until, run_number}
-use Rattle.schedd_table.specs.JobPlaces.{is_left}
+use Rattle.schedd_plan.specs.JobPlaces.{is_left}
 
 -- an ad names a run by its claim and number, and says when its lease ends
 pub record NamesRun (ad : Attributes) (claim : ClaimId) (number end : ℕ) : Type 0 where

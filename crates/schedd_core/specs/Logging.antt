@@ -16,9 +16,9 @@ use Rattle.schedd_plan.specs.declared.plan.JobPlan.TheVariants as plan
 use Rattle.schedd_plan.specs.declared.status.JobStatus.{JobStatus}
 use Rattle.schedd_plan.specs.declared.status.JobStatus.TheVariants as status
 use Rattle.schedd_plan.specs.JobAttributes.{status_of}
-use Rattle.schedd_table.specs.declared.runs.KeptRun.{KeptRun}
-use Rattle.schedd_table.specs.JobPlaces.{taken_off}
-use Rattle.schedd_table.specs.KeptRuns.{run_of, place_of_job}
+use Rattle.schedd_plan.specs.declared.runs.KeptRun.{KeptRun}
+use Rattle.schedd_plan.specs.JobPlaces.{taken_off}
+use Rattle.schedd_plan.specs.KeptRuns.{run_of, place_of_job}
 use Rattle.schedd_state.specs.Reopening.{IsReader, found_runs, found_claims, still_left, next_after}
 use Rattle.schedd_state.specs.Searches.{AreUnder}
 use Rattle.schedd_state.specs.Schedds.{ScheddValue, After, becomes, says}

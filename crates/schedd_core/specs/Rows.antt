@@ -12,19 +12,19 @@ use Rattle.pool_mail.specs.declared.mail.Mail.TheVariants as mail
 use Rattle.queue_tx.specs.declared.key.Key.TheVariants.{Proc}
 use Rattle.queue_tx.specs.Queues.{KeyedAds, ad_at}
 use Rattle.schedd_plan.specs.declared.reason.Reason.TheVariants.{ByCommand}
-use Rattle.schedd_table.specs.declared.claims.KeptClaim.{KeptClaim}
-use Rattle.schedd_table.specs.declared.claims.Stage.{Stage}
-use Rattle.schedd_table.specs.declared.claims.Stage.TheVariants as stage
-use Rattle.schedd_table.specs.declared.mail.Fate.TheVariants as fate
-use Rattle.schedd_table.specs.declared.mail.MailRow.{MailRow}
-use Rattle.schedd_table.specs.declared.mail.MailRow.TheVariants as row
-use Rattle.schedd_table.specs.declared.runs.KeptRun.{KeptRun}
-use Rattle.schedd_table.specs.EndTable.{ended_ad_plan}
-use Rattle.schedd_table.specs.JobPlaces.{job_place, let_go}
-use Rattle.schedd_table.specs.KeptClaims.{place_of_claim, engages, with_stage, claims_without}
-use Rattle.schedd_table.specs.KeptRuns.{place_of_run, runs_without}
-use Rattle.schedd_table.specs.MailTable.{matched_row, granted_row, denied_row, order_row, fate_of_gone, after_fate}
-use Rattle.schedd_table.specs.OrderTable.{remove_plan, hold_plan, resume_plan}
+use Rattle.schedd_plan.specs.declared.claims.KeptClaim.{KeptClaim}
+use Rattle.schedd_plan.specs.declared.claims.Stage.{Stage}
+use Rattle.schedd_plan.specs.declared.claims.Stage.TheVariants as stage
+use Rattle.schedd_plan.specs.declared.mail.Fate.TheVariants as fate
+use Rattle.schedd_plan.specs.declared.mail.MailRow.{MailRow}
+use Rattle.schedd_plan.specs.declared.mail.MailRow.TheVariants as row
+use Rattle.schedd_plan.specs.declared.runs.KeptRun.{KeptRun}
+use Rattle.schedd_plan.specs.EndTable.{ended_ad_plan}
+use Rattle.schedd_plan.specs.JobPlaces.{job_place, let_go}
+use Rattle.schedd_plan.specs.KeptClaims.{place_of_claim, engages, with_stage, claims_without}
+use Rattle.schedd_plan.specs.KeptRuns.{place_of_run, runs_without}
+use Rattle.schedd_plan.specs.MailTable.{matched_row, granted_row, denied_row, order_row, fate_of_gone, after_fate}
+use Rattle.schedd_plan.specs.OrderTable.{remove_plan, hold_plan, resume_plan}
 use Rattle.schedd_state.specs.Schedds.{ScheddValue, After, becomes, says, waits}
 
 -- ---- what is known of a claim: its place, and how far it has come

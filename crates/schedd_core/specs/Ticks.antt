@@ -11,15 +11,15 @@ use Rattle.queue_tx.specs.Queues.{KeyedAds, ad_at}
 use Rattle.schedd_plan.specs.declared.plan.JobPlan.TheVariants as plan
 use Rattle.schedd_plan.specs.JobAttributes.{lease_until}
 use Rattle.schedd_state.specs.declared.answer.ScheddStep.{ScheddStep}
-use Rattle.schedd_table.specs.declared.claims.KeptClaim.{KeptClaim}
-use Rattle.schedd_table.specs.declared.runs.KeptRun.{KeptRun}
-use Rattle.schedd_table.specs.declared.tick.TickLine.{TickLine}
-use Rattle.schedd_table.specs.declared.tick.TickLine.TheVariants as line
-use Rattle.schedd_table.specs.JobPlaces.{let_go}
-use Rattle.schedd_table.specs.KeptClaims.{with_job, claims_without}
-use Rattle.schedd_table.specs.KeptRuns.{runs_without, with_run, with_alive}
+use Rattle.schedd_plan.specs.declared.claims.KeptClaim.{KeptClaim}
+use Rattle.schedd_plan.specs.declared.runs.KeptRun.{KeptRun}
+use Rattle.schedd_plan.specs.declared.tick.TickLine.{TickLine}
+use Rattle.schedd_plan.specs.declared.tick.TickLine.TheVariants as line
+use Rattle.schedd_plan.specs.JobPlaces.{let_go}
+use Rattle.schedd_plan.specs.KeptClaims.{with_job, claims_without}
+use Rattle.schedd_plan.specs.KeptRuns.{runs_without, with_run, with_alive}
 use Rattle.schedd_state.specs.Searches.{IsFree}
-use Rattle.schedd_table.specs.TickTable.{lease_end}
+use Rattle.schedd_plan.specs.TickTable.{lease_end}
 use Rattle.schedd_state.specs.Schedds.{ScheddValue, After, becomes, says, waits}
 use Rattle.schedd_state.specs.DueLines.{tick_line}
 use Rattle.schedd_state.specs.Leaving.{left_claims}

@@ -13,12 +13,11 @@ use ad_tree::Ad;
 use ad_value::Memory;
 use claim_id::JobId;
 use queue_tx::{Key, Queue};
-use schedd_plan::{JobPlan, Reason};
+use schedd_plan::{JobPlace, JobPlan, Reason, ad_of, can_be_held, hold_plan, is_waiting, remove_plan, resume_plan};
 use schedd_state::{
     ClaimsChange, LeftChange, LooksChange, NewLook, PreparedSchedd, RunsChange, Schedd,
     ScheddChange, ScheddStep,
 };
-use schedd_table::{JobPlace, ad_of, can_be_held, hold_plan, is_waiting, remove_plan, resume_plan};
 use std::alloc::Global;
 
 /// A look at the periodic expressions of a job. The queue is the one as logged, and no

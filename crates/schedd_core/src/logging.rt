@@ -13,12 +13,11 @@ use ad_value::Memory;
 use claim_id::{JobId, RunNo};
 use pool_mail::{Mail, MailList, request_ad};
 use queue_tx::Queue;
-use schedd_plan::{JobPlan, JobStatus, status_of};
+use schedd_plan::{JobPlan, JobStatus, ad_of, place_of_job, status_of};
 use schedd_state::{
     ClaimsChange, LeftChange, LooksChange, PreparedSchedd, RunsChange, Schedd, ScheddChange,
     ScheddStep,
 };
-use schedd_table::{ad_of, place_of_job};
 use std::alloc::Global;
 
 /// What waited is logged; the queue is the one that came of it. Memory too where the next run's

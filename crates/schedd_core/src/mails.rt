@@ -4,7 +4,7 @@ ghost use Rattle.std.specs.Prelude.{◌≡◌, ◌∷◌, [], IfOk, OnErr};
 ghost use Rattle.pool_mail.specs.declared.mail.Mail.TheVariants as of_mail;
 ghost use Rattle.queue_tx.specs.Queues.{ad_at};
 ghost use Rattle.queue_tx.specs.declared.key.Key.TheVariants.{Proc};
-ghost use Rattle.schedd_table.specs.KeptClaims.{with_stage};
+ghost use Rattle.schedd_plan.specs.KeptClaims.{with_stage};
 ghost use Rattle.schedd_state.specs.PreparedSchedds.{CanPut, HasClaimRoom, IsRoomFor, claims_after, schedd_after};
 ghost use Rattle.schedd_state.specs.Schedds.{nothing_done, says};
 ghost use Rattle.schedd_core.specs.Rows.{stage_known, run_known, mail_row, seen_row, gone_row, ended_row, noted, asked_in, after_row, after_mail};
@@ -13,13 +13,8 @@ use ad_value::{Copied, Memory};
 use claim_id::{ClaimId, ClaimNo, JobId, RunNo};
 use pool_mail::{How, Mail, request_ad};
 use queue_tx::Queue;
-use schedd_plan::Reason;
+use schedd_plan::{Fate, KeptClaim, MailRow, Reason, Stage, ad_of, denied_row, ended_plan, engages, fate_of_gone, granted_row, hold_plan, let_go, matched_row, order_row, place_of_claim, place_of_run, remove_plan, resume_plan};
 use schedd_state::{ClaimsChange, PreparedSchedd, RunsChange, Schedd, ScheddStep};
-use schedd_table::{
-    Fate, KeptClaim, MailRow, Stage, ad_of, denied_row, ended_plan, engages, fate_of_gone,
-    granted_row, hold_plan, let_go, matched_row, order_row, place_of_claim, place_of_run,
-    remove_plan, resume_plan,
-};
 use std::alloc::Global;
 
 /// A mail is received; the queue is the one as logged, and no transaction is unfinished. After

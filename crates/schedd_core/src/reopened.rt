@@ -15,12 +15,11 @@ use ad_tree::{Ad, Expr};
 use ad_value::{Copied, Memory, Value};
 use claim_id::{ClaimId, JobId};
 use queue_tx::{JobKind, Queue, kind_of};
-use schedd_plan::{JobPlan, run_number};
+use schedd_plan::{JobPlan, KeptClaim, KeptRun, LeftJobs, Stage, ad_of, is_left, run_number};
 use schedd_state::{
     ClaimsChange, LeftChange, LooksChange, PreparedSchedd, RunsChange, Schedd, ScheddChange,
     ScheddStep, under_jobs,
 };
-use schedd_table::{KeptClaim, KeptRun, LeftJobs, Stage, ad_of, is_left};
 use std::alloc::Global;
 
 /// The schedd comes back after a crash, with the queue as logged: what waited is in it, or is

@@ -1,7 +1,7 @@
 // What a tick makes of a schedd.
 
 ghost use Rattle.std.specs.Prelude.{◌≡◌, IfOk, OnErr, slice_get};
-ghost use Rattle.schedd_table.specs.KeptRuns.{with_run};
+ghost use Rattle.schedd_plan.specs.KeptRuns.{with_run};
 ghost use Rattle.schedd_state.specs.PreparedSchedds.{HasClaimRoom, schedd_after};
 ghost use Rattle.schedd_core.specs.Ticks.{IsSought, IsSoughtBy, IsTicked, after_past, later, after_lengthen, after_grant, after_give_up, after_line};
 ghost use Rattle.schedd_state.specs.DueLines.{tick_line};
@@ -10,9 +10,8 @@ use crate::mails::release;
 use ad_value::Memory;
 use claim_id::JobId;
 use queue_tx::{Key, Queue};
-use schedd_plan::{JobPlan, lease_until};
+use schedd_plan::{JobPlan, KeptRun, TickLine, ad_of, add_run, lease_end, lease_until, let_go};
 use schedd_state::{ClaimsChange, PreparedSchedd, RunsChange, Schedd, ScheddStep, first_free};
-use schedd_table::{KeptRun, TickLine, ad_of, add_run, lease_end, let_go};
 use std::alloc::Global;
 
 /// Time passes: the first thing that is due is done; nothing where nothing is. The queue is the

@@ -1,2 +1,10 @@
-pub mod Plans
+pub mod EndTable
 pub mod JobAttributes
+pub mod JobPlaces
+pub mod KeptClaims
+pub mod KeptRuns
+pub mod LeftOrder
+pub mod MailTable
+pub mod OrderTable
+pub mod Plans
+pub mod TickTable

@@ -9,7 +9,7 @@ use Rattle.queue_tx.specs.declared.key.Key.TheVariants.{Header, Proc}
 use Rattle.queue_tx.specs.Keys.{is_above}
 use Rattle.queue_tx.specs.Periodic.{has_periodic, is_periodic, IsPeriodic}
 use Rattle.queue_tx.specs.Queues.{KeyedAds, ad_at}
-use Rattle.schedd_table.specs.TickTable.{is_after}
+use Rattle.schedd_plan.specs.TickTable.{is_after}
 use Rattle.schedd_state.specs.DueChecks.{is_unchecked_since, is_unchecked, is_check_due_by, is_check_due, checked_at, was_checked, job_of_key, IsNoLater, IsFirstDue, IsPassedTo, IsFresh, IsDueKey, IsDueKeyFirst, FirstDueKey, IsOldestPeriodic, OldestPeriodic, IsAgain, FirstAgain}
 use Rattle.schedd_state.specs.Schedds.{ScheddValue}
 

@@ -13,7 +13,7 @@ use Rattle.queue_tx.specs.Jobs.{IsFirstKey}
 use Rattle.queue_tx.specs.Queues.{KeyedAds}
 use Rattle.queue_tx.specs.Requests.{IsIdleAsking}
 use Rattle.queue_tx.proofs.Queues.{exact_keys}
-use Rattle.schedd_table.specs.declared.claims.KeptClaim.{KeptClaim}
+use Rattle.schedd_plan.specs.declared.claims.KeptClaim.{KeptClaim}
 use Rattle.schedd_state.specs.Searches.{is_engaged_key, IsFree}
 
 pub after_or_equal : (r : Ordering) → is_gt r ≡ false → (r ≡ Less) ⊎ (r ≡ Equal)

@@ -15,8 +15,8 @@ use Rattle.queue_tx.specs.Keys.{key_cmp}
 use Rattle.queue_tx.specs.Jobs.{FirstKey, IsJobOf}
 use Rattle.queue_tx.specs.Queues.{KeyedAds}
 use Rattle.queue_tx.proofs.Asking.{above_count, fewer, job_is_there}
-use Rattle.schedd_table.specs.LeftOrder.{AreInOrder, job_cmp}
-use Rattle.schedd_table.proofs.LeftLists.{above_less, is_less}
+use Rattle.schedd_plan.specs.LeftOrder.{AreInOrder, job_cmp}
+use Rattle.schedd_plan.proofs.LeftLists.{above_less, is_less}
 use Rattle.schedd_state.specs.Searches.{is_later, IsNextUnder, NoneUnder, NextUnder, AreUnder}
 
 pub next_from : (q : KeyedAds) (last : Option JobId) (start : Bound (Bor Key)) (found : Option JobId)

@@ -9,7 +9,7 @@ use Rattle.queue_tx.specs.declared.key.Key.TheVariants.{Header, Proc}
 use Rattle.queue_tx.specs.Keys.{key_cmp, is_above, same_key}
 use Rattle.queue_tx.specs.Periodic.{has_periodic, IsPeriodic}
 use Rattle.queue_tx.specs.Queues.{KeyedAds, ad_at}
-use Rattle.schedd_table.specs.TickTable.{is_after}
+use Rattle.schedd_plan.specs.TickTable.{is_after}
 use Rattle.schedd_state.specs.Schedds.{ScheddValue}
 
 -- ---- when a look is due

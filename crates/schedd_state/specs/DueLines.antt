@@ -3,12 +3,12 @@ use Rattle.std.specs.Prelude.{ℕ, Bool, true, false, Option, Some, None, slice_
 use Rattle.claim_id.specs.declared.numbers.JobId.{JobId}
 use Rattle.pool_mail.specs.declared.settings.Settings.{Settings}
 use Rattle.queue_tx.specs.Queues.{KeyedAds}
-use Rattle.schedd_table.specs.declared.claims.KeptClaim.{KeptClaim}
-use Rattle.schedd_table.specs.declared.runs.KeptRun.{KeptRun}
-use Rattle.schedd_table.specs.declared.tick.TickLine.{TickLine}
-use Rattle.schedd_table.specs.declared.tick.TickLine.TheVariants as line
-use Rattle.schedd_table.specs.KeptRuns.{is_before}
-use Rattle.schedd_table.specs.TickTable.{run_line, due_run, claim_line, due_claim, line_at_run, line_at_claim}
+use Rattle.schedd_plan.specs.declared.claims.KeptClaim.{KeptClaim}
+use Rattle.schedd_plan.specs.declared.runs.KeptRun.{KeptRun}
+use Rattle.schedd_plan.specs.declared.tick.TickLine.{TickLine}
+use Rattle.schedd_plan.specs.declared.tick.TickLine.TheVariants as line
+use Rattle.schedd_plan.specs.KeptRuns.{is_before}
+use Rattle.schedd_plan.specs.TickTable.{run_line, due_run, claim_line, due_claim, line_at_run, line_at_claim}
 use Rattle.schedd_state.specs.Schedds.{ScheddValue}
 
 -- ---- the first line that is due

@@ -1,9 +1,9 @@
 -- A claim that is leaving.
 use Rattle.std.specs.Prelude.{ℕ, List, Option, Some, None}
 use Rattle.claim_id.specs.declared.numbers.ClaimNo.{ClaimNo}
-use Rattle.schedd_table.specs.declared.claims.KeptClaim.{KeptClaim}
-use Rattle.schedd_table.specs.declared.claims.Stage.TheVariants.{Leaving}
-use Rattle.schedd_table.specs.KeptClaims.{place_of_claim, with_stage}
+use Rattle.schedd_plan.specs.declared.claims.KeptClaim.{KeptClaim}
+use Rattle.schedd_plan.specs.declared.claims.Stage.TheVariants.{Leaving}
+use Rattle.schedd_plan.specs.KeptClaims.{place_of_claim, with_stage}
 
 abbrev pub left_at : Option ℕ → List KeptClaim → List KeptClaim
 left_at None claims = claims

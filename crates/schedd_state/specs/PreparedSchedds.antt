@@ -7,12 +7,12 @@ use Rattle.claim_id.specs.declared.numbers.JobId.{JobId}
 use Rattle.queue_tx.specs.declared.key.Key.{Key}
 use Rattle.queue_tx.specs.declared.key.Key.TheVariants.{Proc}
 use Rattle.queue_tx.specs.Keys.{key_cmp, same_key}
-use Rattle.schedd_table.specs.declared.claims.KeptClaim.{KeptClaim}
-use Rattle.schedd_table.specs.declared.runs.KeptRun.{KeptRun}
-use Rattle.schedd_table.specs.JobPlaces.{taken_off}
-use Rattle.schedd_table.specs.KeptClaims.{with_stage, with_job, claims_without}
-use Rattle.schedd_table.specs.KeptRuns.{runs_without, with_alive}
-use Rattle.schedd_table.specs.MailTable.{after_fate}
+use Rattle.schedd_plan.specs.declared.claims.KeptClaim.{KeptClaim}
+use Rattle.schedd_plan.specs.declared.runs.KeptRun.{KeptRun}
+use Rattle.schedd_plan.specs.JobPlaces.{taken_off}
+use Rattle.schedd_plan.specs.KeptClaims.{with_stage, with_job, claims_without}
+use Rattle.schedd_plan.specs.KeptRuns.{runs_without, with_alive}
+use Rattle.schedd_plan.specs.MailTable.{after_fate}
 use Rattle.schedd_state.specs.declared.change.ClaimsChange.{ClaimsChange}
 use Rattle.schedd_state.specs.declared.change.ClaimsChange.TheVariants as claims
 use Rattle.schedd_state.specs.declared.change.LeftChange.{LeftChange}

@@ -16,11 +16,11 @@ use Rattle.queue_tx.specs.Queues.{KeyedAds, ad_at}
 use Rattle.schedd_plan.specs.declared.plan.JobPlan.{JobPlan}
 use Rattle.schedd_plan.specs.declared.plan.JobPlan.TheVariants as plan
 use Rattle.schedd_plan.specs.JobAttributes.{natural_at, run_number}
-use Rattle.schedd_table.specs.declared.claims.KeptClaim.{KeptClaim}
-use Rattle.schedd_table.specs.declared.claims.Stage.TheVariants.{Ready}
+use Rattle.schedd_plan.specs.declared.claims.KeptClaim.{KeptClaim}
+use Rattle.schedd_plan.specs.declared.claims.Stage.TheVariants.{Ready}
 use Rattle.schedd_state.specs.declared.run_numbers.TheConstants.{LAST_RUN_NUMBER}
-use Rattle.schedd_table.specs.declared.runs.KeptRun.{KeptRun}
-use Rattle.schedd_table.specs.JobPlaces.{is_left}
+use Rattle.schedd_plan.specs.declared.runs.KeptRun.{KeptRun}
+use Rattle.schedd_plan.specs.JobPlaces.{is_left}
 
 -- a function that reads the texts of claims
 abbrev pub IsReader : (List ℕ → Option ClaimId) → Type 0

@@ -7,9 +7,9 @@ use Rattle.queue_tx.specs.declared.key.Key.{Key}
 use Rattle.queue_tx.specs.Queues.{KeyedAds}
 use Rattle.schedd_plan.specs.declared.plan.JobPlan.{JobPlan}
 use Rattle.schedd_state.specs.declared.answer.ScheddStep.{ScheddStep}
-use Rattle.schedd_table.specs.declared.claims.KeptClaim.{KeptClaim}
-use Rattle.schedd_table.specs.declared.runs.KeptRun.{KeptRun}
-use Rattle.schedd_table.specs.KeptClaims.{engages}
+use Rattle.schedd_plan.specs.declared.claims.KeptClaim.{KeptClaim}
+use Rattle.schedd_plan.specs.declared.runs.KeptRun.{KeptRun}
+use Rattle.schedd_plan.specs.KeptClaims.{engages}
 use Rattle.schedd_state.specs.Searches.{AreUnder}
 use Rattle.schedd_state.specs.Reopening.{first_run}
 

@@ -10,8 +10,8 @@ use Rattle.queue_tx.specs.Jobs.{IsJobOf}
 use Rattle.queue_tx.specs.Keys.{key_cmp, is_above}
 use Rattle.queue_tx.specs.Queues.{KeyedAds}
 use Rattle.queue_tx.specs.Requests.{IsIdleAsking}
-use Rattle.schedd_table.specs.declared.claims.KeptClaim.{KeptClaim}
-use Rattle.schedd_table.specs.KeptClaims.{engages}
+use Rattle.schedd_plan.specs.declared.claims.KeptClaim.{KeptClaim}
+use Rattle.schedd_plan.specs.KeptClaims.{engages}
 
 abbrev pub is_engaged_key : List KeptClaim → Key → Bool
 is_engaged_key claims Header = false

@@ -12,7 +12,7 @@ ghost use Rattle.schedd_state.specs.DueChecks.{job_of_key, FirstAgain, FirstDueK
 use crate::looks::Looks;
 use claim_id::JobId;
 use queue_tx::{Key, Queue, has_periodic};
-use schedd_table::is_after;
+use schedd_plan::is_after;
 use std::ops::Bound;
 
 /// The job under a key at which a look is due first. Where all jobs with a periodic expression up

@@ -2,7 +2,7 @@
 
 ghost use Rattle.std.specs.Prelude.{◌≡◌, ◌∷◌, [], None, Some, true, IfOk, IfSome, slice_get};
 ghost use Rattle.queue_tx.specs.declared.key.Key.TheVariants.{Proc};
-ghost use Rattle.schedd_table.specs.JobPlaces.{job_place};
+ghost use Rattle.schedd_plan.specs.JobPlaces.{job_place};
 ghost use Rattle.schedd_state.specs.declared.change.LeftChange.TheVariants as of_left;
 ghost use Rattle.schedd_state.specs.declared.change.LooksChange.TheVariants as of_looks;
 ghost use Rattle.schedd_state.specs.DueChecks.{is_check_due, is_unchecked, with_new, IsFirstDue, IsPassed, Passes};
@@ -22,11 +22,7 @@ use ad_value::{Copied, Memory};
 use claim_id::JobId;
 use pool_mail::{Mail, Settings};
 use queue_tx::{Key, Queue, has_periodic};
-use schedd_plan::JobPlan;
-use schedd_table::{
-    ClaimLine, JobPlace, KeptClaim, KeptRun, LeftJobs, RunLine, TickLine, ad_of, claim_line,
-    due_claim, due_run, engages, is_after, is_before, job_place, run_line,
-};
+use schedd_plan::{ClaimLine, JobPlace, JobPlan, KeptClaim, KeptRun, LeftJobs, RunLine, TickLine, ad_of, claim_line, due_claim, due_run, engages, is_after, is_before, job_place, run_line};
 use std::alloc::Global;
 use std::marker::Model;
 
@@ -64,8 +60,8 @@ impl Model for Schedd {
     ghost use Rattle.pool_mail.specs.contracts.settings.Settings as of_settings;
     ghost use Rattle.schedd_plan.specs.contracts.plan.JobPlan as of_plan;
     ghost use Rattle.claim_id.specs.contracts.numbers.JobId as of_job;
-    ghost use Rattle.schedd_table.specs.contracts.claims.KeptClaim as of_claim;
-    ghost use Rattle.schedd_table.specs.contracts.runs.KeptRun as of_run;
+    ghost use Rattle.schedd_plan.specs.contracts.claims.KeptClaim as of_claim;
+    ghost use Rattle.schedd_plan.specs.contracts.runs.KeptRun as of_run;
     ghost use Rattle.schedd_state.specs.Schedds.{ScheddValue};
 
     ghost Value = { ScheddValue };

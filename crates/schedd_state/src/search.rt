@@ -11,7 +11,7 @@ use ad_tree::Ad;
 use ad_value::Memory;
 use claim_id::JobId;
 use queue_tx::{JobKind, Key, Queue};
-use schedd_table::{KeptClaim, LeftJobs, engages};
+use schedd_plan::{KeptClaim, LeftJobs, engages};
 use std::alloc::Global;
 use std::ops::Bound;
 

@@ -1,7 +1,7 @@
 use Rattle.std.proofs.Common.{◌∙◌, List, sym, subst}
 use Rattle.std.proofs.lemmas.List.Kept.{IsStrictlySortedBy-filter}
 use Rattle.claim_id.specs.declared.numbers.JobId.{JobId}
-use Rattle.schedd_table.specs.LeftOrder.{AreInOrder, job_cmp}
+use Rattle.schedd_plan.specs.LeftOrder.{AreInOrder, job_cmp}
 use Rattle.schedd_state.specs.Reopening.{is_under_at}
 use Rattle.schedd_core.proofs.reopened.still_left.Goals as goal
 

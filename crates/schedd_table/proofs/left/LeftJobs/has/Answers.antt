@@ -1,6 +1,0 @@
-use Rattle.std.proofs.Common.{rules}
-use Rattle.schedd_table.proofs.LeftLists.{found_left}
-use Rattle.schedd_table.proofs.left.LeftJobs.has.Goals as goal
-
-pub returns : goal.returns
-returns c = search (rules, found_left)
