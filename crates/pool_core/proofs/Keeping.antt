@@ -8,7 +8,7 @@ use Rattle.pool_core.specs.KeptPools.{IsKeptPool}
 use Rattle.pool_core.specs.ShortPlans.{HasShortPlan, IsShortPlan}
 use Rattle.pool_parts.specs.declared.answer.Stepped.{Stepped}
 use Rattle.pool_parts.specs.declared.event.Event.{Event}
-use Rattle.pool_links.proofs.Viewing.{linked_shows, shown_safe}
+use Rattle.pool_safety.proofs.Viewing.{linked_shows, shown_safe}
 use Rattle.pool_rules.specs.Given.{IsGiven}
 use Rattle.pool_rules.specs.Happens.{Reacts}
 use Rattle.pool_parts.specs.declared.pending.Pending.{Pending}

@@ -4,9 +4,9 @@ use Rattle.claim_id.specs.declared.numbers.ClaimId.{ClaimId}
 use Rattle.claim_id.specs.declared.numbers.JobId.{JobId}
 use Rattle.pool_parts.specs.declared.answer.Stepped.{Stepped}
 use Rattle.pool_parts.specs.declared.event.Event.TheVariants as event
-use Rattle.pool_links.proofs.Kept.{in_second}
-use Rattle.pool_links.proofs.Viewing.{acked_known, left_rightly}
-use Rattle.pool_links.specs.Shown.{IsKnown, LeftRightly}
+use Rattle.pool_safety.proofs.Kept.{in_second}
+use Rattle.pool_safety.proofs.Viewing.{acked_known, left_rightly}
+use Rattle.pool_safety.specs.Shown.{IsKnown, LeftRightly}
 use Rattle.pool_rules.specs.Happens.{Happens, Reacts, counts_brought}
 use Rattle.pool_rules.specs.Logging.{IsLogged, Leaver, after_unfinished, cluster_jobs, leaver_of}
 use Rattle.pool_safety.specs.Parts.{finished_in, parts_of}

@@ -6,9 +6,9 @@ use Rattle.pool_parts.specs.Events.{reading_of}
 use Rattle.pool_parts.specs.declared.answer.Stepped.{Stepped}
 use Rattle.pool_parts.specs.declared.event.Event.{Event}
 use Rattle.pool_parts.specs.declared.event.Event.TheVariants as event
-use Rattle.pool_links.proofs.Opening.{opening_protocol}
-use Rattle.pool_links.proofs.Reviewing.{view_linked}
-use Rattle.pool_links.proofs.Viewing.{linked_shows, shown_safe, steps_lead}
+use Rattle.pool_safety.proofs.Opening.{opening_protocol}
+use Rattle.pool_safety.proofs.Reviewing.{view_linked}
+use Rattle.pool_safety.proofs.Viewing.{linked_shows, shown_safe, steps_lead}
 use Rattle.pool_rules.specs.Happens.{Reacts, counts_brought, latest_after}
 use Rattle.pool_safety.specs.Parts.{parts_of}
 use Rattle.pool_outer.specs.declared.gate.Daemon.TheVariants.{Schedd, Startd, Matchmaker}

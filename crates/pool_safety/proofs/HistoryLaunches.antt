@@ -8,8 +8,8 @@ use Rattle.pool_parts.specs.declared.answer.Answer.TheVariants as answer
 use Rattle.pool_parts.specs.declared.answer.Stepped.{Stepped}
 use Rattle.pool_parts.specs.declared.event.Event.{Event}
 use Rattle.pool_parts.specs.declared.event.Event.TheVariants as event
-use Rattle.pool_links.specs.Launched.{IsPermitOf}
-use Rattle.pool_links.specs.Shown.{ShowsPool}
+use Rattle.pool_safety.specs.Launched.{IsPermitOf}
+use Rattle.pool_safety.specs.Shown.{ShowsPool}
 use Rattle.pool_rules.specs.Answers.{answer_of_startd, answer_with, pending_by}
 use Rattle.pool_rules.specs.Happens.{Happens, counts_brought, counts_event}
 use Rattle.pool_safety.specs.Parts.{parts_of}

@@ -10,7 +10,7 @@ use Rattle.claim_id.specs.declared.order.Verb.{Verb}
 use Rattle.pool_parts.specs.declared.answer.Stepped.{Stepped}
 use Rattle.pool_parts.specs.declared.event.Event.{Event}
 use Rattle.pool_parts.specs.declared.event.Event.TheVariants as event
-use Rattle.pool_links.proofs.Kept.{in_both, in_first}
+use Rattle.pool_safety.proofs.Kept.{in_both, in_first}
 use Rattle.pool_mail.specs.declared.mail.Mail.{Mail}
 use Rattle.pool_mail.specs.declared.mail.Mail.TheVariants as mail
 use Rattle.pool_rules.specs.Deeds.{ordered_by}

@@ -26,10 +26,10 @@ use Rattle.schedd_core.proofs.QueueChanges.{ordered_after}
 use Rattle.schedd_plan.specs.declared.plan.JobPlan.{JobPlan}
 use Rattle.schedd_plan.specs.declared.plan.JobPlan.TheVariants as plan
 use Rattle.schedd_plan.specs.Plans.{job_of, plan_ops}
-use Rattle.pool_links.specs.Linked.{Awaits, AwaitsJobs, AwaitsPlan, BringsJobs, new_job_id}
-use Rattle.pool_links.specs.PoolParts.{Awaited}
-use Rattle.pool_links.proofs.Kept.{in_both, in_first, in_second}
-use Rattle.pool_links.proofs.Submitting.{OneOrNone, new_was_none, one_or_none}
+use Rattle.pool_safety.specs.Linked.{Awaits, AwaitsJobs, AwaitsPlan, BringsJobs, new_job_id}
+use Rattle.pool_safety.specs.PoolParts.{Awaited}
+use Rattle.pool_safety.proofs.Kept.{in_both, in_first, in_second}
+use Rattle.pool_safety.proofs.Submitting.{OneOrNone, new_was_none, one_or_none}
 use Rattle.pool_rules.specs.Logging.{cluster_jobs, jobs_after, jobs_left_by}
 use Rattle.pool_safety.specs.Kept.{IsKept, IsTxOf}
 use Rattle.pool_safety.specs.Parts.{awaited_by, awaited_of, parts_of}

@@ -26,7 +26,7 @@ use Rattle.queue_tx.proofs.KeptJobs.{kind_from, kind_itself}
 use Rattle.queue_tx.proofs.Queues.{exact_keys}
 use Rattle.queue_tx.proofs.Transactions.{same_keys}
 use Rattle.schedd_core.specs.ScheddParts.{IsThere}
-use Rattle.pool_links.proofs.Kept.{in_both, in_first, in_second}
+use Rattle.pool_safety.proofs.Kept.{in_both, in_first, in_second}
 
 -- ---- lists in which nothing comes twice
 abbrev pub AreApart : {A : Type 0} → List A → Type 0

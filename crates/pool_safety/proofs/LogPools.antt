@@ -27,8 +27,8 @@ use Rattle.schedd_state.specs.Reopening.{is_under_at, under_by}
 use Rattle.schedd_plan.specs.declared.plan.JobPlan.{JobPlan}
 use Rattle.schedd_plan.specs.declared.plan.JobPlan.TheVariants as plan
 use Rattle.schedd_plan.specs.Plans.{job_of, plan_ops}
-use Rattle.pool_links.specs.Linked.{Awaits, AwaitsPlan}
-use Rattle.pool_links.specs.PoolParts.{Awaited, NewJobs, Planned}
+use Rattle.pool_safety.specs.Linked.{Awaits, AwaitsPlan}
+use Rattle.pool_safety.specs.PoolParts.{Awaited, NewJobs, Planned}
 use Rattle.pool_rules.specs.Happens.{Happens, Reacts, counts_event}
 use Rattle.pool_safety.specs.Few.{AreFew}
 use Rattle.pool_safety.specs.Kept.{IsKept, IsTxOf}

@@ -8,7 +8,7 @@ use Rattle.pool_mail.specs.declared.mail.Mail.TheVariants.{Update, Matched, Ask,
 use Rattle.pool_tables.specs.declared.sent.Sent.{Sent}
 use Rattle.pool_tables.specs.MailLists.{receiver_of, received_once, with_received}
 use Rattle.pool_view.specs.AbstractPool.{IsIn}
-use Rattle.pool_links.proofs.Kept.{in_both}
+use Rattle.pool_safety.proofs.Kept.{in_both}
 use Rattle.pool_rules.specs.Deeds.{posted}
 use Rattle.pool_safety.specs.Parts.{mail_of}
 use Rattle.pool_safety.specs.Kept.{AreAddressed}

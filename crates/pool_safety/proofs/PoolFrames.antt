@@ -1,7 +1,7 @@
 -- What is counted of a pool doesn't matter to what is kept; and moves one after the other.
 use Rattle.std.proofs.Common.{ℕ, max, Bool, List, [], ◌∷◌, ◌++◌, sym, subst}
-use Rattle.pool_links.proofs.Going.{after_append, may_append}
-use Rattle.pool_links.proofs.ScheddKept.{time_linked}
+use Rattle.pool_safety.proofs.Going.{after_append, may_append}
+use Rattle.pool_safety.proofs.ScheddKept.{time_linked}
 use Rattle.pool_safety.specs.Parts.{parts_of}
 use Rattle.pool_view.specs.Protocol.{Protocol}
 use Rattle.pool_view.specs.ProtocolMove.{ProtocolMove, PassTime, MayAll, all_steps, protocol_after_all}

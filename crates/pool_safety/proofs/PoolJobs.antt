@@ -10,7 +10,7 @@ use Rattle.claim_id.specs.Texts.{claim_text}
 use Rattle.claim_id.specs.declared.numbers.ClaimId.{ClaimId}
 use Rattle.claim_id.specs.declared.numbers.JobId.{JobId}
 use Rattle.claim_id.specs.declared.numbers.RunNo.{RunNo}
-use Rattle.pool_links.specs.Linked.{IsFinishedAs}
+use Rattle.pool_safety.specs.Linked.{IsFinishedAs}
 use Rattle.pool_safety.specs.Parts.{entry_done_by, finished_in}
 use Rattle.pool_parts.specs.declared.finished.FinishedJob.{FinishedJob}
 use Rattle.pool_view.specs.Protocol.{Protocol}

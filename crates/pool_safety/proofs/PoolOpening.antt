@@ -11,9 +11,9 @@ use Rattle.ad_tree.specs.Ad.{Attributes}
 use Rattle.claim_id.specs.declared.numbers.JobId.{JobId}
 use Rattle.claim_id.specs.declared.numbers.SlotId.{SlotId}
 use Rattle.pool_parts.specs.Listings.{AreJobs, is_past_job}
-use Rattle.pool_links.proofs.Kept.{in_both, in_first, in_second}
-use Rattle.pool_links.proofs.Opening.{opening_linked, opening_protocol}
-use Rattle.pool_links.specs.Openings.{IsFreshStartd, IsOpeningPool}
+use Rattle.pool_safety.proofs.Kept.{in_both, in_first, in_second}
+use Rattle.pool_safety.proofs.Opening.{opening_linked, opening_protocol}
+use Rattle.pool_safety.specs.Openings.{IsFreshStartd, IsOpeningPool}
 use Rattle.pool_mail.specs.declared.slot_ad.SlotAd.{SlotAd}
 use Rattle.pool_safety.specs.Parts.{awaited_of, finished_in, mail_of, parts_of}
 use Rattle.pool_outer.specs.declared.gate.Daemon.{Daemon}

@@ -11,12 +11,12 @@ use Rattle.claim_id.specs.declared.order.Verb.TheVariants as verb
 use Rattle.claim_id.specs.Texts.{IsClaim}
 use Rattle.pool_parts.specs.declared.answer.Stepped.{Stepped}
 use Rattle.pool_parts.specs.declared.event.Event.TheVariants as event
-use Rattle.pool_links.proofs.Kept.{in_both}
-use Rattle.pool_links.proofs.Machines.{at_place}
-use Rattle.pool_links.proofs.Wanting.{wanted_linked}
-use Rattle.pool_links.specs.Linked.{IsLinked}
-use Rattle.pool_links.specs.PoolParts.{slot_in_pool, slot_of_startd}
-use Rattle.pool_links.specs.Wanted.{IsWanted}
+use Rattle.pool_safety.proofs.Kept.{in_both}
+use Rattle.pool_safety.proofs.Machines.{at_place}
+use Rattle.pool_safety.proofs.Wanting.{wanted_linked}
+use Rattle.pool_safety.specs.Linked.{IsLinked}
+use Rattle.pool_safety.specs.PoolParts.{slot_in_pool, slot_of_startd}
+use Rattle.pool_safety.specs.Wanted.{IsWanted}
 use Rattle.pool_shown.specs.Slots.{slot_at, slot_of_machine}
 use Rattle.pool_mail.specs.Mails.{receivers_of}
 use Rattle.pool_mail.specs.declared.mail.Mail.{Mail}

@@ -6,10 +6,10 @@ use Rattle.std.proofs.lemmas.List.{map-append}
 use Rattle.std.proofs.lemmas.List.Elements.{filter_map-append}
 use Rattle.claim_id.specs.declared.numbers.ClaimId.{ClaimId}
 use Rattle.claim_id.specs.declared.numbers.SlotId.{SlotId}
-use Rattle.pool_links.proofs.Machines.{in_place}
-use Rattle.pool_links.specs.Linked.{AreStartds, IsFinishedAs}
-use Rattle.pool_links.specs.PoolParts.{machine_parts, pool_parts}
-use Rattle.pool_links.specs.Shown.{ShowsPool}
+use Rattle.pool_safety.proofs.Machines.{in_place}
+use Rattle.pool_safety.specs.Linked.{AreStartds, IsFinishedAs}
+use Rattle.pool_safety.specs.PoolParts.{machine_parts, pool_parts}
+use Rattle.pool_safety.specs.Shown.{ShowsPool}
 use Rattle.pool_shown.specs.Slots.{all_slots}
 use Rattle.pool_safety.specs.Parts.{finished_in, parts_of}
 use Rattle.pool_outer.specs.declared.gate.Daemon.TheVariants.{Startd}

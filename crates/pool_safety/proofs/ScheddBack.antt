@@ -23,10 +23,10 @@ use Rattle.schedd_core.specs.Logging.{IsReopened}
 use Rattle.schedd_state.specs.Reopening.{IsReader}
 use Rattle.schedd_state.specs.Schedds.{ScheddValue}
 use Rattle.schedd_core.proofs.Marks.{reopened_passed}
-use Rattle.pool_links.specs.Linked.{Awaits, AwaitsJobs, AwaitsPlan, StayLinked}
-use Rattle.pool_links.specs.PoolParts.{Awaited}
-use Rattle.pool_links.specs.ScheddEvents.{parts_with_return}
-use Rattle.pool_links.proofs.Returning.{jobs_kept, nothing_kept, plan_kept}
+use Rattle.pool_safety.specs.Linked.{Awaits, AwaitsJobs, AwaitsPlan, StayLinked}
+use Rattle.pool_safety.specs.PoolParts.{Awaited}
+use Rattle.pool_safety.specs.ScheddEvents.{parts_with_return}
+use Rattle.pool_safety.proofs.Returning.{jobs_kept, nothing_kept, plan_kept}
 use Rattle.pool_rules.specs.Happens.{Happens, boots}
 use Rattle.pool_rules.specs.Logging.{IsBackWith, Leaver, ScheddIsBack, cluster_jobs, leaver_of, with_leaver, with_logged}
 use Rattle.pool_safety.specs.Parts.{awaited_by, awaited_of, finished_in, parts_of}

@@ -33,10 +33,10 @@ use Rattle.schedd_core.proofs.Marks.{going_passed, moved_passed}
 use Rattle.schedd_plan.specs.declared.plan.JobPlan.{JobPlan}
 use Rattle.schedd_plan.specs.declared.plan.JobPlan.TheVariants as plan
 use Rattle.pool_parts.specs.Plans.{ordered_job}
-use Rattle.pool_links.specs.Linked.{Awaits, IsLinked, StayLinked}
-use Rattle.pool_links.specs.PoolParts.{Awaited, NewJobs, Planned, PoolParts}
-use Rattle.pool_links.specs.ScheddEvents.{is_known_by, job_removed, moves_of_schedd_mail, orders_of_mail, parts_with_schedd}
-use Rattle.pool_links.proofs.ScheddPlans.{check_linked, mail_linked, remove_orders, tick_linked}
+use Rattle.pool_safety.specs.Linked.{Awaits, IsLinked, StayLinked}
+use Rattle.pool_safety.specs.PoolParts.{Awaited, NewJobs, Planned, PoolParts}
+use Rattle.pool_safety.specs.ScheddEvents.{is_known_by, job_removed, moves_of_schedd_mail, orders_of_mail, parts_with_schedd}
+use Rattle.pool_safety.proofs.ScheddPlans.{check_linked, mail_linked, remove_orders, tick_linked}
 use Rattle.pool_rules.specs.Deeds.{ordered_by, schedd_acts}
 use Rattle.pool_rules.specs.Happens.{Happens, Receives, is_known}
 use Rattle.pool_safety.specs.Parts.{entry_done_by, parts_of}
@@ -45,7 +45,7 @@ use Rattle.pool_safety.specs.Kept.{GoesOn, IsKept, at_reading}
 use Rattle.pool_safety.specs.Steps.{IsOrderStep, IsStepOf}
 use Rattle.pool_safety.proofs.HistoryTraces.{look_removes}
 use Rattle.pool_safety.proofs.ScheddSteps.{order_makes, pends_make, schedd_mail_makes}
-use Rattle.pool_links.proofs.Machines.{at_place}
+use Rattle.pool_safety.proofs.Machines.{at_place}
 use Rattle.pool_safety.proofs.Mailing.{mail_in}
 use Rattle.pool_safety.proofs.Refusing.{then_none}
 use Rattle.pool_safety.proofs.ScheddGoing.{check_idle, goes_after_reading, none_awaited, none_waiting, receipt_goes, receive_idle, schedd_goes, tick_idle}

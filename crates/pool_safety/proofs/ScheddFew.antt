@@ -42,10 +42,10 @@ use Rattle.schedd_core.proofs.PlanJobs.{ad_elsewhere, plan_there}
 use Rattle.schedd_plan.specs.declared.plan.JobPlan.{JobPlan}
 use Rattle.schedd_plan.specs.Plans.{job_of}
 use Rattle.startd_core.specs.Startds.{After, StartdValue, after_end, after_mail, after_reboot, after_tick}
-use Rattle.pool_links.specs.Linked.{Awaits, AwaitsJobs, AwaitsPlan, BringsJobs, new_job_id}
-use Rattle.pool_links.specs.PoolParts.{Awaited}
-use Rattle.pool_links.proofs.Kept.{in_first, in_second}
-use Rattle.pool_links.proofs.Submitting.{OneOrNone, one_or_none}
+use Rattle.pool_safety.specs.Linked.{Awaits, AwaitsJobs, AwaitsPlan, BringsJobs, new_job_id}
+use Rattle.pool_safety.specs.PoolParts.{Awaited}
+use Rattle.pool_safety.proofs.Kept.{in_first, in_second}
+use Rattle.pool_safety.proofs.Submitting.{OneOrNone, one_or_none}
 use Rattle.pool_rules.specs.Happens.{ComesBack, Happens, Reacts, Receives, Ticks, counts_brought, counts_event, crashes}
 use Rattle.pool_rules.specs.Logging.{IsBackWith, IsLogged, Leaver, ScheddIsBack, after_unfinished, cluster_jobs, leaver_as, leaver_of, leaver_with, outcome_of, run_under, with_leaver}
 use Rattle.pool_rules.specs.Masters.{gives}

@@ -18,14 +18,14 @@ use Rattle.pool_view.specs.AbstractStep.{AbstractStep, Time}
 use Rattle.schedd_state.specs.declared.answer.ScheddStep.{ScheddStep}
 use Rattle.schedd_state.specs.Schedds.{ScheddValue}
 use Rattle.schedd_plan.specs.declared.plan.JobPlan.{JobPlan}
-use Rattle.pool_links.specs.Linked.{Awaits, StayLinked}
-use Rattle.pool_links.specs.PoolParts.{Awaited, PoolParts}
-use Rattle.pool_links.specs.ScheddEvents.{parts_with_schedd, planned_by}
-use Rattle.pool_links.specs.Shown.{SameParts}
-use Rattle.pool_links.specs.StartdEvents.{parts_at_reading}
-use Rattle.pool_links.proofs.Going.{after_append, may_append}
-use Rattle.pool_links.proofs.ScheddKept.{time_linked}
-use Rattle.pool_links.proofs.Viewing.{same_linked}
+use Rattle.pool_safety.specs.Linked.{Awaits, StayLinked}
+use Rattle.pool_safety.specs.PoolParts.{Awaited, PoolParts}
+use Rattle.pool_safety.specs.ScheddEvents.{parts_with_schedd, planned_by}
+use Rattle.pool_safety.specs.Shown.{SameParts}
+use Rattle.pool_safety.specs.StartdEvents.{parts_at_reading}
+use Rattle.pool_safety.proofs.Going.{after_append, may_append}
+use Rattle.pool_safety.proofs.ScheddKept.{time_linked}
+use Rattle.pool_safety.proofs.Viewing.{same_linked}
 use Rattle.pool_rules.specs.Answers.{pending_by}
 use Rattle.pool_rules.specs.Deeds.{receives, schedd_acts}
 use Rattle.pool_safety.specs.Parts.{awaited_of, parts_of}

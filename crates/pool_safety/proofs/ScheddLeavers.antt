@@ -33,9 +33,9 @@ use Rattle.schedd_plan.specs.declared.plan.JobPlan.{JobPlan}
 use Rattle.schedd_plan.specs.declared.plan.JobPlan.TheVariants as plan
 use Rattle.schedd_plan.specs.JobAttributes.{run_number}
 use Rattle.schedd_plan.specs.Plans.{job_of}
-use Rattle.pool_links.specs.Linked.{AwaitsPlan, IsLinked}
-use Rattle.pool_links.specs.ScheddEvents.{Finishes, LeavesBy, NamesSomeRun, finished_with}
-use Rattle.pool_links.proofs.Completing.{run_is_named}
+use Rattle.pool_safety.specs.Linked.{AwaitsPlan, IsLinked}
+use Rattle.pool_safety.specs.ScheddEvents.{Finishes, LeavesBy, NamesSomeRun, finished_with}
+use Rattle.pool_safety.proofs.Completing.{run_is_named}
 use Rattle.pool_rules.specs.Logging.{Leaver, ended_by, leaver_as, leaver_of, leaver_with, outcome_of, run_named, run_under, with_leaver}
 use Rattle.pool_safety.specs.Parts.{entry_done, entry_done_by, finished_in, parts_of}
 

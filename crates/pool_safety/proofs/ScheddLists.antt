@@ -1,7 +1,7 @@
 -- Members of lists that are sets.
 use Rattle.std.proofs.Common.{◌⊎◌, inl, inr, List, [], ◌∷◌, ◌++◌, map, ap}
 use Rattle.pool_view.specs.AbstractPool.{IsIn, SameMembers}
-use Rattle.pool_links.proofs.Kept.{in_both, in_first, in_second}
+use Rattle.pool_safety.proofs.Kept.{in_both, in_first, in_second}
 
 pub same_members : {A : Type 0} (xs : List A) → SameMembers xs xs
 same_members xs x = (λ there. there, λ there. there)

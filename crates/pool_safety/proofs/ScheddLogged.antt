@@ -30,12 +30,12 @@ use Rattle.schedd_state.specs.Reopening.{IsReader}
 use Rattle.schedd_core.proofs.Marks.{logged_passed, new_passed}
 use Rattle.schedd_plan.specs.declared.plan.JobPlan.{JobPlan}
 use Rattle.schedd_plan.specs.Plans.{plan_ops}
-use Rattle.pool_links.specs.Linked.{Awaits, AwaitsJobs, AwaitsPlan, BringsJobs, new_job_id}
-use Rattle.pool_links.specs.PoolParts.{Awaited}
-use Rattle.pool_links.specs.ScheddEvents.{parts_with_jobs, parts_with_plan}
-use Rattle.pool_links.proofs.Kept.{in_both}
-use Rattle.pool_links.proofs.ScheddLogged.{plan_logged}
-use Rattle.pool_links.proofs.Submitting.{jobs_logged}
+use Rattle.pool_safety.specs.Linked.{Awaits, AwaitsJobs, AwaitsPlan, BringsJobs, new_job_id}
+use Rattle.pool_safety.specs.PoolParts.{Awaited}
+use Rattle.pool_safety.specs.ScheddEvents.{parts_with_jobs, parts_with_plan}
+use Rattle.pool_safety.proofs.Kept.{in_both}
+use Rattle.pool_safety.proofs.LinkedLogged.{plan_logged}
+use Rattle.pool_safety.proofs.Submitting.{jobs_logged}
 use Rattle.pool_rules.specs.Deeds.{counts_sent, posts}
 use Rattle.pool_rules.specs.Happens.{Happens}
 use Rattle.pool_rules.specs.Logging.{IsLogged, Leaver, after_unfinished, cluster_jobs, counts_logged, leaver_of, with_logged, with_submission}

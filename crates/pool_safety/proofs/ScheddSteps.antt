@@ -4,9 +4,9 @@ use Rattle.std.proofs.lemmas.Option.{none-some, same_Some}
 use Rattle.ad_tree.specs.Ad.{Attributes}
 use Rattle.claim_id.specs.declared.numbers.JobId.{JobId}
 use Rattle.claim_id.specs.declared.numbers.RunNo.{RunNo}
-use Rattle.pool_links.specs.Linked.{AwaitsJobs, AwaitsPlan}
-use Rattle.pool_links.specs.PoolParts.{PoolParts}
-use Rattle.pool_links.specs.ScheddEvents.{late_order, moves_of_schedd_mail}
+use Rattle.pool_safety.specs.Linked.{AwaitsJobs, AwaitsPlan}
+use Rattle.pool_safety.specs.PoolParts.{PoolParts}
+use Rattle.pool_safety.specs.ScheddEvents.{late_order, moves_of_schedd_mail}
 use Rattle.pool_mail.specs.declared.mail.Mail.{Mail}
 use Rattle.pool_mail.specs.declared.mail.Mail.TheVariants as mail
 use Rattle.pool_parts.specs.Plans.{ordered_job}
@@ -34,7 +34,7 @@ use Rattle.schedd_plan.specs.declared.plan.JobPlan.TheVariants as plan
 use Rattle.schedd_plan.specs.Plans.{job_of}
 use Rattle.pool_rules.specs.Logging.{cluster_jobs}
 use Rattle.pool_parts.specs.declared.pending.Unfinished.TheVariants.{Submission}
-use Rattle.pool_links.specs.Linked.{new_job_id}
+use Rattle.pool_safety.specs.Linked.{new_job_id}
 use Rattle.pool_safety.specs.Steps.{AreSteps, IsAcknowledgeStep, IsOrderStep, IsPlanStep, IsQueueStep}
 use Rattle.pool_safety.proofs.ScheddLists.{in_map}
 use Rattle.pool_safety.proofs.StepKinds.{MakeSteps, both_steps, confirms_make, step_before, make_append, no_steps}

@@ -18,12 +18,12 @@ use Rattle.queue_tx.specs.Operations.{Operation}
 use Rattle.queue_tx.specs.Queues.{KeyedAds, ad_at, queue_after}
 use Rattle.queue_tx.proofs.Transactions.{same_keys}
 use Rattle.schedd_core.specs.ScheddParts.{IsOrdered}
-use Rattle.pool_links.specs.Bringing.{AreIdleJobs, AreOfHeader, JobAd, all_bringing_ops, bringing_ops, job_of_ad, new_job_of, setting_op}
-use Rattle.pool_links.specs.Linked.{Awaits, BringsJobs, new_job_id}
-use Rattle.pool_links.specs.PoolParts.{Awaited, NewJobs}
-use Rattle.pool_links.specs.ScheddEvents.{AreNewJobs, IsNotAmong, parts_with_submission}
-use Rattle.pool_links.proofs.Bringing.{brings_jobs}
-use Rattle.pool_links.proofs.Submitting.{jobs_submitted}
+use Rattle.pool_safety.specs.Bringing.{AreIdleJobs, AreOfHeader, JobAd, all_bringing_ops, bringing_ops, job_of_ad, new_job_of, setting_op}
+use Rattle.pool_safety.specs.Linked.{Awaits, BringsJobs, new_job_id}
+use Rattle.pool_safety.specs.PoolParts.{Awaited, NewJobs}
+use Rattle.pool_safety.specs.ScheddEvents.{AreNewJobs, IsNotAmong, parts_with_submission}
+use Rattle.pool_safety.proofs.Bringing.{brings_jobs}
+use Rattle.pool_safety.proofs.Submitting.{jobs_submitted}
 use Rattle.pool_rules.specs.Given.{AreIdle}
 use Rattle.pool_rules.specs.Happens.{submission_of}
 use Rattle.pool_rules.specs.Logging.{cluster_jobs}

@@ -15,7 +15,7 @@ use Rattle.startd_slot.specs.Mails.{asked_claim, reaction_to}
 use Rattle.startd_slot.specs.SlotStates.{runs_on}
 use Rattle.startd_core.specs.declared.offers.Machine.{Machine}
 use Rattle.startd_core.specs.Startds.{StartdValue, after_end, after_mail, ended_at, ended_in, ended_where, made_by, place_of, put_at, put_in, received_at, received_in, received_of}
-use Rattle.pool_links.proofs.Machines.{put_cases}
+use Rattle.pool_safety.proofs.Machines.{put_cases}
 use Rattle.pool_safety.specs.Kept.{AreInBoot}
 
 -- ---- mails and ends leave the machine as it is

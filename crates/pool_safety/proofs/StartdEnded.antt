@@ -26,8 +26,8 @@ use Rattle.startd_core.specs.declared.offers.Machine.{Machine}
 use Rattle.startd_core.specs.Offers.{Settled, has_changed, settled}
 use Rattle.startd_core.specs.Sound.{IsSlotAt, IsSound}
 use Rattle.startd_core.specs.Startds.{StartdValue, after_end, after_made, ended_at, ended_in, ended_where, made_by, place_of, slot_in, told}
-use Rattle.pool_links.specs.StartdEvents.{end_report_of, report_where, reports_in_slot, reports_of_end}
-use Rattle.pool_links.proofs.Machines.{at_place, in_place}
+use Rattle.pool_safety.specs.StartdEvents.{end_report_of, report_where, reports_in_slot, reports_of_end}
+use Rattle.pool_safety.proofs.Machines.{at_place, in_place}
 use Rattle.pool_rules.specs.Startds.{ends_after, job_of_run, job_on, job_running, report_in, report_of, reports_in}
 
 -- ---- the run is on one slot

@@ -26,13 +26,13 @@ use Rattle.startd_slot.specs.declared.slot.Slot.{Slot}
 use Rattle.startd_slot.specs.Mails.{asked_claim}
 use Rattle.startd_slot.specs.SlotMoves.{IsJudgedHere}
 use Rattle.startd_core.specs.Startds.{After, StartdValue, after_end, after_mail, after_reboot, after_tick, slot_of_claim}
-use Rattle.pool_links.specs.Linked.{IsLinked, StayLinked}
-use Rattle.pool_links.specs.StartdEvents.{moves_of_boots, moves_of_ended_run, moves_of_startd_mail, moves_of_ticks, parts_at_reading, reports_of_end}
-use Rattle.pool_links.proofs.Machines.{at_place}
-use Rattle.pool_links.proofs.ScheddKept.{time_linked}
-use Rattle.pool_links.proofs.StartdEnds.{end_linked}
-use Rattle.pool_links.proofs.StartdMails.{mail_linked}
-use Rattle.pool_links.proofs.StartdTimes.{boot_linked, tick_linked}
+use Rattle.pool_safety.specs.Linked.{IsLinked, StayLinked}
+use Rattle.pool_safety.specs.StartdEvents.{moves_of_boots, moves_of_ended_run, moves_of_startd_mail, moves_of_ticks, parts_at_reading, reports_of_end}
+use Rattle.pool_safety.proofs.Machines.{at_place}
+use Rattle.pool_safety.proofs.ScheddKept.{time_linked}
+use Rattle.pool_safety.proofs.StartdEnds.{end_linked}
+use Rattle.pool_safety.proofs.StartdMails.{mail_linked}
+use Rattle.pool_safety.proofs.StartdTimes.{boot_linked, tick_linked}
 use Rattle.pool_rules.specs.Deeds.{receives, startd_acts}
 use Rattle.pool_rules.specs.Happens.{Happens, IsReopened, Receives, boots}
 use Rattle.pool_safety.specs.Parts.{parts_of}

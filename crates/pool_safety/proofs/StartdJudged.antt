@@ -16,7 +16,7 @@ use Rattle.startd_slot.specs.declared.slot.Slot.{Slot}
 use Rattle.startd_slot.specs.Mails.{asked_claim}
 use Rattle.startd_slot.specs.SlotMoves.{IsJudgedHere}
 use Rattle.startd_core.specs.Startds.{StartdValue, place_of, slot_in, slot_of, slot_of_claim}
-use Rattle.pool_links.proofs.StartdMails.{place_is}
+use Rattle.pool_safety.proofs.StartdMails.{place_is}
 use Rattle.pool_safety.proofs.Deciding.{one_ad}
 
 -- ---- the slot of a number

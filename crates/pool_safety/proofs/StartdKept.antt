@@ -12,13 +12,13 @@ use Rattle.pool_view.specs.AbstractStep.{AbstractStep}
 use Rattle.schedd_state.specs.DueChecks.{IsPassed}
 use Rattle.startd_core.specs.declared.answer.StartdStep.{StartdStep}
 use Rattle.startd_core.specs.Startds.{After, StartdValue}
-use Rattle.pool_links.specs.Linked.{StayLinked}
-use Rattle.pool_links.specs.PoolParts.{PoolParts}
-use Rattle.pool_links.specs.Shown.{SameParts}
-use Rattle.pool_links.specs.StartdEvents.{parts_at_reading, parts_with_startd}
-use Rattle.pool_links.proofs.Kept.{in_both, in_first, in_second}
-use Rattle.pool_links.proofs.ScheddKept.{time_linked}
-use Rattle.pool_links.proofs.Viewing.{lead_on, same_linked}
+use Rattle.pool_safety.specs.Linked.{StayLinked}
+use Rattle.pool_safety.specs.PoolParts.{PoolParts}
+use Rattle.pool_safety.specs.Shown.{SameParts}
+use Rattle.pool_safety.specs.StartdEvents.{parts_at_reading, parts_with_startd}
+use Rattle.pool_safety.proofs.Kept.{in_both, in_first, in_second}
+use Rattle.pool_safety.proofs.ScheddKept.{time_linked}
+use Rattle.pool_safety.proofs.Viewing.{lead_on, same_linked}
 use Rattle.pool_rules.specs.Deeds.{posted, receives, startd_acts}
 use Rattle.pool_rules.specs.Happens.{boots}
 use Rattle.pool_safety.specs.Parts.{awaited_of, finished_in, parts_of}

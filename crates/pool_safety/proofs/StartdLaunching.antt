@@ -19,11 +19,11 @@ use Rattle.startd_core.specs.declared.answer.StartdAnswer.{StartdAnswer}
 use Rattle.startd_core.specs.declared.answer.StartdAnswer.TheVariants as startd
 use Rattle.startd_core.specs.Permits.{permit_in}
 use Rattle.startd_core.specs.Startds.{After, after_mail}
-use Rattle.pool_links.specs.Launched.{IsPermitOf}
-use Rattle.pool_links.specs.Shown.{ShowsPool}
-use Rattle.pool_links.specs.StartdEvents.{moves_of_startd_mail}
-use Rattle.pool_links.proofs.Launching.{permits_matched}
-use Rattle.pool_links.proofs.Viewing.{linked_shows, one_view}
+use Rattle.pool_safety.specs.Launched.{IsPermitOf}
+use Rattle.pool_safety.specs.Shown.{ShowsPool}
+use Rattle.pool_safety.specs.StartdEvents.{moves_of_startd_mail}
+use Rattle.pool_safety.proofs.Launching.{permits_matched}
+use Rattle.pool_safety.proofs.Viewing.{linked_shows, one_view}
 use Rattle.pool_rules.specs.Answers.{answer_of_startd}
 use Rattle.pool_rules.specs.Happens.{Happens}
 use Rattle.pool_safety.specs.Parts.{parts_of}

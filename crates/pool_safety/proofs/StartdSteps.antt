@@ -8,9 +8,9 @@ use Rattle.claim_id.specs.declared.numbers.ClaimNo.{ClaimNo}
 use Rattle.claim_id.specs.declared.numbers.JobId.{JobId}
 use Rattle.claim_id.specs.declared.numbers.RunNo.{RunNo}
 use Rattle.claim_id.specs.declared.numbers.SlotId.{SlotId}
-use Rattle.pool_links.proofs.Machines.{at_place, in_place}
-use Rattle.pool_links.proofs.SlotRows.{by_if}
-use Rattle.pool_links.specs.StartdEvents.{ends_in_slot, ends_where, moves_in_slot, moves_of_all, moves_of_boots, moves_of_ended_run, moves_of_startd_mail, moves_of_ticks}
+use Rattle.pool_safety.proofs.Machines.{at_place, in_place}
+use Rattle.pool_safety.proofs.SlotRows.{by_if}
+use Rattle.pool_safety.specs.StartdEvents.{ends_in_slot, ends_where, moves_in_slot, moves_of_all, moves_of_boots, moves_of_ended_run, moves_of_startd_mail, moves_of_ticks}
 use Rattle.pool_mail.specs.declared.end.Ending.{Ending}
 use Rattle.pool_mail.specs.declared.end.How.{How}
 use Rattle.pool_mail.specs.declared.mail.Mail.{Mail}

@@ -1,6 +1,6 @@
 -- Which steps moves make, whatever the protocol.
 use Rattle.std.proofs.Common.{◌⊎◌, inl, inr, ℕ, List, [], ◌∷◌, ◌++◌, map, refl, sym, subst}
-use Rattle.pool_links.proofs.Kept.{in_both, in_first, in_second}
+use Rattle.pool_safety.proofs.Kept.{in_both, in_first, in_second}
 use Rattle.pool_view.specs.Protocol.{NewJob, Protocol}
 use Rattle.pool_view.specs.ProtocolMove.{ProtocolMove, Confirm, PassTime, all_steps, confirm_move, protocol_after, protocol_after_all, steps_of}
 use Rattle.pool_view.specs.AbstractPool.{IsIn}

@@ -6,8 +6,8 @@ use Rattle.pool_parts.specs.declared.answer.Answer.TheVariants.{Launch}
 use Rattle.pool_parts.specs.declared.answer.Stepped.{Stepped}
 use Rattle.pool_parts.specs.declared.event.Event.{Event}
 use Rattle.pool_parts.specs.Events.{reading_of}
-use Rattle.pool_links.specs.Launched.{IsPermitOf}
-use Rattle.pool_links.specs.Shown.{ShowsPool}
+use Rattle.pool_safety.specs.Launched.{IsPermitOf}
+use Rattle.pool_safety.specs.Shown.{ShowsPool}
 use Rattle.pool_rules.specs.Given.{IsGiven}
 use Rattle.pool_rules.specs.Happens.{Reacts, latest_after}
 use Rattle.pool_safety.specs.Parts.{parts_of}

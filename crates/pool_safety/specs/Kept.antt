@@ -17,7 +17,7 @@ use Rattle.queue_tx.specs.Operations.{Operation}
 use Rattle.schedd_state.specs.DueChecks.{IsPassed}
 use Rattle.schedd_plan.specs.Plans.{plan_ops}
 use Rattle.startd_core.specs.Startds.{StartdValue}
-use Rattle.pool_links.specs.Linked.{IsLinked}
+use Rattle.pool_safety.specs.Linked.{IsLinked}
 use Rattle.pool_safety.specs.Parts.{parts_of}
 use Rattle.pool_safety.specs.Steps.{AreSteps}
 

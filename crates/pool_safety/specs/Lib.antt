@@ -1,8 +1,17 @@
+pub mod Bringing
 pub mod Counted
 pub mod Few
 pub mod Histories
 pub mod Kept
+pub mod Launched
+pub mod Linked
+pub mod Openings
 pub mod Orders
 pub mod Parts
+pub mod PoolParts
+pub mod ScheddEvents
+pub mod Shown
+pub mod StartdEvents
 pub mod Steps
 pub mod Unfinished
+pub mod Wanted

@@ -2,7 +2,7 @@
 use Rattle.std.specs.Prelude.{List, map, Option, Some, None}
 use Rattle.std.specs.Map.{lookup}
 use Rattle.claim_id.specs.declared.numbers.JobId.{JobId}
-use Rattle.pool_links.specs.PoolParts.{Awaited, NewJobs, Planned, PoolParts}
+use Rattle.pool_safety.specs.PoolParts.{Awaited, NewJobs, Planned, PoolParts}
 use Rattle.pool_mail.specs.declared.mail.Mail.{Mail}
 use Rattle.pool_parts.specs.declared.finished.FinishedJob.{FinishedJob}
 use Rattle.pool_parts.specs.declared.pending.Pending.{Pending}

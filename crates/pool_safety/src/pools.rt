@@ -9,7 +9,7 @@ ghost use Rattle.claim_id.specs.declared.order.Verb.{Verb};
 ghost use Rattle.pool_parts.specs.declared.answer.Stepped.{Stepped};
 ghost use Rattle.pool_parts.specs.declared.event.Event.{Event};
 ghost use Rattle.pool_parts.specs.declared.event.Event.TheVariants.{Close, Crash, Matches, Order, Receive, Reopen, Tick};
-ghost use Rattle.pool_links.specs.Shown.{ShowsPool};
+ghost use Rattle.pool_safety.specs.Shown.{ShowsPool};
 ghost use Rattle.pool_mail.specs.declared.end.Ending.{Ending};
 ghost use Rattle.pool_mail.specs.declared.matching.Match.{Match};
 ghost use Rattle.pool_rules.specs.Given.{IsGiven};

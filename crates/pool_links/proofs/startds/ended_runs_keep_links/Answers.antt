@@ -1,5 +1,0 @@
-use Rattle.pool_links.proofs.StartdEnds.{end_linked}
-use Rattle.pool_links.proofs.startds.ended_runs_keep_links.Goals as goal
-
-pub returns : goal.returns
-returns c = end_linked
