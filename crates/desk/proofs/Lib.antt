@@ -1,5 +1,7 @@
+pub mod Accepting
 pub mod Answered
 pub mod GivenByMarks
+pub mod Holding
 pub mod LogCourse
 pub mod MachineCourse
 pub mod OneMore

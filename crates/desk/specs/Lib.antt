@@ -1,7 +1,9 @@
+pub mod Answers
 pub mod Entries
 pub mod Given
 pub mod Kinds
 pub mod Launches
 pub mod Logs
 pub mod Passes
+pub mod SolePasses
 pub mod Standing

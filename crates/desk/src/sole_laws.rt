@@ -5,7 +5,7 @@ ghost use Rattle.pool_outer.specs.declared.gate.Daemon.{Daemon};
 ghost use Rattle.pool_state.specs.declared.opening.Opening.{Opening};
 ghost use Rattle.pool_state.specs.declared.state.PoolState.{PoolState};
 ghost use Rattle.pool_state.specs.Openings.{CanOpen, IsOpenedBy};
-ghost use Rattle.sole_desk.specs.SolePasses.{CanHold, HasHolder};
+ghost use Rattle.desk.specs.SolePasses.{CanHold, HasHolder};
 
 /// A pool that opens can be held by each of its daemons, and by the master.
 pub fn opened_pools_can_be_held()

@@ -17,7 +17,7 @@ use Rattle.receipt_roll.specs.Values.{RollMark}
 use Rattle.startd_core.specs.Sound.{IsSound}
 use Rattle.startd_core.specs.Startds.{StartdValue}
 use Rattle.startd_slot.specs.SlotStates.{is_run}
-use Rattle.sole_desk.specs.SolePasses.{CanHold, HasHolder, IsAtRest, IsFree, StandsHere}
+use Rattle.desk.specs.SolePasses.{CanHold, HasHolder, IsAtRest, IsFree, StandsHere}
 
 -- ---- before the first event
 -- no run was launched, and none is on a slot

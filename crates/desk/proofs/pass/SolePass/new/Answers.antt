@@ -1,8 +1,8 @@
 use Rattle.std.proofs.Common.{List, sym, subst}
 use Rattle.desk.specs.declared.entry.Entry.{Entry}
-use Rattle.sole_desk.specs.SolePasses.{StandsHere}
-use Rattle.sole_desk.proofs.Holding.{first_stands}
-use Rattle.sole_desk.proofs.pass.SolePass.new.Goals as goal
+use Rattle.desk.specs.SolePasses.{StandsHere}
+use Rattle.desk.proofs.Holding.{first_stands}
+use Rattle.desk.proofs.pass.SolePass.new.Goals as goal
 
 pub invariant_of-result : goal.invariant_of-result
 invariant_of-result c =

@@ -25,7 +25,7 @@ use Rattle.pool_state.specs.declared.state.PoolState.{PoolState}
 use Rattle.pool_tables.specs.DaemonTables.{daemon_state}
 use Rattle.queue_tx.specs.Queues.{KeyedAds}
 use Rattle.receipt_roll.specs.Values.{RollMark}
-use Rattle.sole_desk.specs.SolePasses.{HasHolder, HasOneMore, SolePassValue, StandsHere}
+use Rattle.desk.specs.SolePasses.{HasHolder, HasOneMore, SolePassValue, StandsHere}
 
 -- ---- the pool has its holder and the roll, as it did
 still_there : (holder : Option Daemon) (s new : PoolState) → HasSameRolls s new → HasHolder holder s → HasHolder holder new

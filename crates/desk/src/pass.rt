@@ -9,10 +9,10 @@ ghost use Rattle.pool_rules.specs.Happens.{Reacts};
 ghost use Rattle.desk.specs.Standing.{end_mark_of, logged_before};
 ghost use Rattle.pool_rules.specs.Refusals.{IsRefusal};
 ghost use Rattle.queue_tx.specs.Queues.{KeyedAds};
-ghost use Rattle.sole_desk.specs.Answers.{IsRefusedHere};
-ghost use Rattle.sole_desk.specs.SolePasses.{CanHold, HasHolder, HasOneMore};
+ghost use Rattle.desk.specs.Answers.{IsRefusedHere};
+ghost use Rattle.desk.specs.SolePasses.{CanHold, HasHolder, HasOneMore};
 
-use desk::Entry;
+use crate::Entry;
 use pool_core::Pool;
 use pool_outer::Daemon;
 use pool_parts::{Answer, Event, Stepped};
@@ -45,7 +45,7 @@ impl Model for SolePass {
     ghost use Rattle.desk.specs.contracts.entry.Entry as of_entry;
     ghost use Rattle.pool_core.specs.contracts.pool.Pool as of_pool;
     ghost use Rattle.pool_outer.specs.contracts.gate.Daemon as of_daemon;
-    ghost use Rattle.sole_desk.specs.SolePasses.{SolePassValue, StandsHere};
+    ghost use Rattle.desk.specs.SolePasses.{SolePassValue, StandsHere};
 
     ghost Value = { SolePassValue };
 

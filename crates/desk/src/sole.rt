@@ -1,5 +1,5 @@
 ghost use Rattle.std.specs.Prelude.{◌≡◌};
-ghost use Rattle.sole_desk.specs.Answers.{IsBootHere, IsCheckHere, IsDueHere, IsMailHere, IsNextHere, IsRefusedHere};
+ghost use Rattle.desk.specs.Answers.{IsBootHere, IsCheckHere, IsDueHere, IsMailHere, IsNextHere, IsRefusedHere};
 ghost use Rattle.pool_shown.specs.Slots.{slot_at};
 ghost use Rattle.pool_parts.specs.Clusters.{IsNextCluster};
 ghost use Rattle.desk.specs.Standing.{end_mark_of, logged_before};
@@ -9,7 +9,7 @@ use crate::pass::SolePass;
 use ad_tree::Ad;
 use ad_value::Memory;
 use claim_id::{JobId, SlotId};
-use desk::Desk;
+use crate::Desk;
 use pool_mail::{Mail, RequestList};
 use pool_outer::Daemon;
 use pool_parts::{Answer, Event, Look};

@@ -3,9 +3,9 @@ use Rattle.desk.specs.Entries.{entry_of}
 use Rattle.desk.specs.Given.{IsGivenBy, IsOwn}
 use Rattle.desk.specs.Standing.{end_mark_of}
 use Rattle.desk.specs.declared.entry.Entry.{Entry}
-use Rattle.sole_desk.specs.SolePasses.{SolePassValue}
-use Rattle.sole_desk.proofs.Accepting.{Accepted, accepted, given_here}
-use Rattle.sole_desk.proofs.pass.SolePass.act.Goals as goal
+use Rattle.desk.specs.SolePasses.{SolePassValue}
+use Rattle.desk.proofs.Accepting.{Accepted, accepted, given_here}
+use Rattle.desk.proofs.pass.SolePass.act.Goals as goal
 
 -- what the accepted event makes of the pass, as it was
 old : (c : goal.After-drop-event-in-Ok) → Accepted (record { holder = c.self.inside.holder; mine = c.self.inside.entries.items; closed = c.self.inside.closed; pool = c.self.inside.pool }) c.push_reserved.new.self.items c.step.new.self c.args.event c.in-Ok.field-0
