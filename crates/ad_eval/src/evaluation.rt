@@ -14,8 +14,8 @@ use crate::operators::{apply, apply_unary, settle};
 use crate::progress::{MOST_IN_PROGRESS, Progress};
 use crate::sides::{Side, Sides, find_in_scope};
 use ad_func::call;
-use ad_value::names::matching::RANK;
 use ad_tree::{Ad, Expr, ExprList, Rest, RestList, Scope, UnOp};
+use ad_value::names::matching::RANK;
 use ad_value::{Memory, Truth, Value, ValueList};
 use std::alloc::Global;
 

@@ -4,8 +4,8 @@ ghost use Rattle.ad_eval.specs.Judgement.{JudgesPair};
 
 use crate::evaluation::holds;
 use crate::steps::Steps;
-use ad_value::names::matching::REQUIREMENTS;
 use ad_tree::Ad;
+use ad_value::names::matching::REQUIREMENTS;
 use ad_value::{Copied, Memory};
 use std::alloc::Global;
 use std::marker::Model;

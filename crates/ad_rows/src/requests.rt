@@ -4,9 +4,9 @@ ghost use Rattle.std.specs.Prelude.{◌≡◌, IfOk};
 ghost use Rattle.ad_tree.specs.Tree.{tree, reference};
 ghost use Rattle.ad_rows.specs.Requests.{at_least, enough, with_enough};
 
+use ad_tree::{BinOp, Expr, Rest, RestList, Scope};
 use ad_value::names::job::{REQUEST_CPUS, REQUEST_DISK, REQUEST_MEMORY};
 use ad_value::names::slot::{CPUS, DISK, MEMORY};
-use ad_tree::{BinOp, Expr, Rest, RestList, Scope};
 use ad_value::{Memory, Text};
 use std::alloc::Global;
 

@@ -11,11 +11,11 @@ pub mod matching;
 pub mod pool;
 pub mod slot;
 
+use crate::name::same_name;
 use crate::names::job::JOB_STATUS;
 use crate::names::pool::{
     EXIT_BY_SIGNAL, EXIT_CODE, EXIT_SIGNAL, HOLD_REASON, LEASE_UNTIL, RUN_CLAIM, RUN_NUMBER,
 };
-use crate::name::same_name;
 
 /// Whether a job has the attribute only while it runs, without memory. Computes in O(1).
 pub fn is_run_name(name: &str) -> bool

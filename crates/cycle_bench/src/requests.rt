@@ -1,6 +1,6 @@
-use ad_value::names::job::{PROC_ID, REQUEST_MEMORY};
 use ad_parse::parse_ad;
 use ad_tree::{Ad, Expr};
+use ad_value::names::job::{PROC_ID, REQUEST_MEMORY};
 use ad_value::{Copied, Text, Value};
 use anyhow::Result;
 use claim_id::JobId;

@@ -1,6 +1,6 @@
-use ad_value::names::slot::{SLOT_ID, START};
 use ad_parse::parse_ad;
 use ad_tree::{Ad, Expr};
+use ad_value::names::slot::{SLOT_ID, START};
 use ad_value::{Copied, Text, Value};
 use anyhow::Result;
 use claim_id::{ClaimId, ClaimNo, SlotId};

@@ -1,8 +1,8 @@
 use crate::judging::judge_pair;
+use ad_tree::{Ad, Expr, SetError};
 use ad_value::names::job::CMD;
 use ad_value::names::matching::REQUIREMENTS;
 use ad_value::names::slot::NAME;
-use ad_tree::{Ad, Expr, SetError};
 use ad_value::{Memory, Text, Value};
 use cases::{Case, CaseError};
 use claim_id::{ClaimNo, JobId, RunNo, SlotId};

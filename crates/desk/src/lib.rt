@@ -12,7 +12,7 @@ mod sole;
 pub mod sole_laws;
 pub mod standing;
 
-pub use crate::Desk;
+pub use desk::Desk;
 pub use entry::{Entry, EntryList, Sort, number_of, sort_of};
 pub use pass::SolePass;
 pub use sole::SoleDesk;

@@ -5,11 +5,11 @@ ghost use Rattle.pool_parts.specs.Clusters.{IsNextCluster};
 ghost use Rattle.desk.specs.Standing.{end_mark_of, logged_before};
 ghost use Rattle.pool_state.specs.Readings.{AreWanted, IsLook, ad_of_slot};
 
+use crate::Desk;
 use crate::pass::SolePass;
 use ad_tree::Ad;
 use ad_value::Memory;
 use claim_id::{JobId, SlotId};
-use crate::Desk;
 use pool_mail::{Mail, RequestList};
 use pool_outer::Daemon;
 use pool_parts::{Answer, Event, Look};

@@ -1,5 +1,5 @@
-use ad_value::names::job::REQUEST_MEMORY;
 use ad_tree::{Ad, AdList, Expr};
+use ad_value::names::job::REQUEST_MEMORY;
 use ad_value::{Memory, Value};
 use cases::{Case, CaseError};
 use script_plan::load;

@@ -1,8 +1,8 @@
 ghost use Rattle.std.specs.Prelude.{◌≡◌, Bool, IfOk};
 ghost use Rattle.job_launch.specs.Launches.{launch_of, launch_words, literal_string, words_under};
 
-use ad_value::names::job::{ARGS, ARGUMENTS, CMD, ERR, IN, IWD, OUT};
 use ad_tree::{Ad, Expr};
+use ad_value::names::job::{ARGS, ARGUMENTS, CMD, ERR, IN, IWD, OUT};
 use ad_value::{Memory, Text, TextList, Value};
 use line_text::arg_words;
 use pool_outer::Launch;

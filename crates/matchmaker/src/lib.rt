@@ -30,7 +30,7 @@ pub use account_error::PriorityError;
 pub use accountant::{Accountant, MAX_USERS};
 pub use bidding::{is_below_ceiling, under_ceiling};
 pub use choosing::{choice_order, is_unmatched, match_of};
-pub use crate::Collector;
+pub use collector::Collector;
 pub use course::{Account, Bidder, Made};
 pub use error::CollectorError;
 pub use kept::{KeptAd, MAX_NAMES};

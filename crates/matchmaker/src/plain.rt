@@ -12,12 +12,12 @@ use crate::course::{Bidder, Made};
 use crate::opening::bidders_of;
 use crate::snapshot::Snapshot;
 use crate::spinning::{spin, takes_part, unmatched};
+use crate::{MAX_SLOTS, MAX_USERS};
 use ad_eval::Steps;
 use ad_value::{Memory, Seq};
 use pool_mail::{Match, MatchList};
 use std::alloc::Global;
 use std::sync::ledger::Ledger;
-use crate::{MAX_SLOTS, MAX_USERS};
 
 // Drops the submitters that take no part any more.
 fn keep_players(bidders: &mut Vec<Bidder>, made: &[Made])

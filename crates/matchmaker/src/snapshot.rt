@@ -1,11 +1,11 @@
 ghost use Rattle.std.specs.Prelude.{◌↔◌, IsTrue, ◌<◌, All};
 ghost use Rattle.matchmaker.specs.Snapshots.{IsSnapshot};
 
+use crate::{MAX_SLOTS, MAX_USERS};
 use ad_tree::{Ad, Expr};
 use ad_value::{Seq, Text};
 use claim_id::{ClaimId, SlotId};
 use pool_mail::RequestList;
-use crate::{MAX_SLOTS, MAX_USERS};
 
 /// A user who has requests.
 pub struct Submitter {

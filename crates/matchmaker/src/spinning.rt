@@ -9,11 +9,11 @@ use crate::bidding::{is_below_ceiling, turn, under_ceiling};
 use crate::choosing::is_unmatched;
 use crate::course::{Account, Bidder, Made};
 use crate::snapshot::{Offer, Snapshot};
+use crate::{MAX_SLOTS, MAX_USERS};
 use ad_eval::Steps;
 use ad_value::Memory;
 use std::alloc::Global;
 use std::sync::ledger::Ledger;
-use crate::{MAX_SLOTS, MAX_USERS};
 
 // How many of the slots no match names.
 #[tactic(auto, unfolding(crate::specs::Cycle::unmatched))]

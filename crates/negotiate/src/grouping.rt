@@ -10,7 +10,10 @@ ghost use Rattle.negotiate.specs.Grouped as grouped;
 
 use ad_eval::Steps;
 use ad_value::Memory;
-use matchmaker::{Account, Made, Offer, Snapshot, choice_order, fits, is_offered, is_unmatched, match_of, rank_of_slot};
+use matchmaker::{
+    Account, Made, Offer, Snapshot, choice_order, fits, is_offered, is_unmatched, match_of,
+    rank_of_slot,
+};
 use pool_mail::Request;
 use std::alloc::Global;
 use std::collections::VecDeque;

@@ -9,7 +9,10 @@ ghost use Rattle.negotiate.specs.Parties as those;
 use crate::grouping::{Clustered, Lists, grouped_turn};
 use ad_eval::Steps;
 use ad_value::Memory;
-use matchmaker::{Account, MAX_SLOTS, MAX_USERS, Made, Snapshot, greater, is_below_ceiling, share, under_ceiling, unmatched, weight};
+use matchmaker::{
+    Account, MAX_SLOTS, MAX_USERS, Made, Snapshot, greater, is_below_ceiling, share, under_ceiling,
+    unmatched, weight,
+};
 use std::alloc::Global;
 use std::collections::VecDeque;
 use std::sync::ledger::Ledger;

@@ -7,13 +7,13 @@ ghost use Rattle.negotiate.specs.Parties as those;
 ghost use Rattle.matchmaker.specs.Plain.{PlainCycle};
 ghost use Rattle.matchmaker.specs.Snapshots.{IsSnapshot};
 
+use crate::Clusters;
+use crate::cluster_laws::agreeing_jobs_match_alike;
 use crate::grouping::{Clustered, Lists};
 use crate::parties::{Party, grouped_matches};
 use ad_eval::Steps;
 use ad_tree::AdList;
 use ad_value::{Copied, Memory, Seq};
-use crate::Clusters;
-use crate::cluster_laws::agreeing_jobs_match_alike;
 use matchmaker::{Bidder, Offer, Snapshot, bidders_of, matches_of};
 use pool_mail::{MatchList, Request};
 use std::alloc::Global;

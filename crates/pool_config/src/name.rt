@@ -9,6 +9,7 @@ ghost use Rattle.pool_config.specs.Names.{name_sets, word_sets, dotted_sets, att
 
 use crate::line::cut_at;
 use crate::word::{pool_word, slot_word};
+use ad_token::is_name;
 use ad_value::names::is_pool_name;
 use ad_value::names::job::{
     ARGS, ARGUMENTS, CLUSTER_ID, CMD, ERR, IN, IWD, JOB_LEASE_DURATION, JOB_PRIO, JOB_UNIVERSE,
@@ -16,8 +17,9 @@ use ad_value::names::job::{
     PROC_ID, Q_DATE, REQUEST_CPUS, REQUEST_DISK, REQUEST_MEMORY, USER_LOG,
 };
 use ad_value::names::matching::{RANK, REQUIREMENTS};
-use ad_value::names::slot::{ARCH, CPUS, DISK, MACHINE, MEMORY, MY_TYPE, NAME, OP_SYS, SLOT_ID, START};
-use ad_token::is_name;
+use ad_value::names::slot::{
+    ARCH, CPUS, DISK, MACHINE, MEMORY, MY_TYPE, NAME, OP_SYS, SLOT_ID, START,
+};
 use pool_settings::Key;
 
 // What a slot's ad has from the pool.

@@ -6,10 +6,12 @@ ghost use Rattle.ad_tree.specs.Tree.{tree};
 ghost use Rattle.pool_settings.specs.Configuration.{configuration_of, machine_of, total_slots, HasRoom, IsWithinLimits};
 ghost use Rattle.pool_config.specs.Slots.{slot_name, slot_ad, pool_attributes, and_attribute, with_attributes, configured_slot, configured_slots, slots_from, slots_upto};
 
-use ad_value::names::matching::{RANK, REQUIREMENTS};
-use ad_value::names::slot::{ARCH, CPUS, DISK, MACHINE, MEMORY, MY_TYPE, NAME, OP_SYS, SLOT_ID, START};
 use ad_rows::{Given, ad_of};
 use ad_tree::{Ad, Expr};
+use ad_value::names::matching::{RANK, REQUIREMENTS};
+use ad_value::names::slot::{
+    ARCH, CPUS, DISK, MACHINE, MEMORY, MY_TYPE, NAME, OP_SYS, SLOT_ID, START,
+};
 use ad_value::{Copied, Memory, Seq, Text};
 use claim_id::SlotId;
 use pool_settings::{Config, MAX_MACHINES, MAX_SLOTS, Machine};

@@ -13,6 +13,7 @@ ghost use Rattle.pool_input.specs.Status.{stage_of, IsAtFiles};
 ghost use Rattle.pool_input.specs.Submissions.{HasNoText, IsTextOf, StopsAt, Submits};
 ghost use Rattle.pool_input.specs.Words.{file_names};
 
+use crate::Named;
 use crate::fault::{Fault, config_fault, fault_status};
 use crate::files::read_file;
 use crate::status::{Kind, Status};
@@ -21,7 +22,6 @@ use ad_value::{Copied, Memory, Text};
 use pool_config::{ConfiguredSlot, configured_slots, read};
 use pool_outer::{Clock, Store};
 use pool_settings::Config;
-use crate::Named;
 use std::alloc::Global;
 use thin_pool::{Course, PoolSlot, PoolSlotList};
 

@@ -1,9 +1,9 @@
 ghost use Rattle.std.specs.Prelude.{◌≡◌, IfOk};
 ghost use Rattle.pool_mail.specs.Ads.{owner_of, request_ad};
 
+use ad_tree::{Ad, Expr};
 use ad_value::names::job::OWNER;
 use ad_value::names::pool::{LEASE_UNTIL, RUN_CLAIM, RUN_NUMBER};
-use ad_tree::{Ad, Expr};
 use ad_value::{Copied, Memory, Value};
 use std::alloc::Global;
 

@@ -5,8 +5,8 @@ ghost use Rattle.ad_tree.specs.declared.ad.TheConstants.{MAX_ATTRIBUTES};
 ghost use Rattle.ad_tree.specs.Tree.{tree};
 ghost use Rattle.pool_mail.specs.Ads.{request_ad};
 
-use ad_value::names::is_run_name;
 use ad_tree::{Ad, Expr};
+use ad_value::names::is_run_name;
 
 /// Whether an ad is that with which slots are judged of a job with the other one, as spelled and in
 /// the same order, without memory. Computes in O(size of the smaller).

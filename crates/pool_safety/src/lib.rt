@@ -13,5 +13,3 @@ pub mod linked_startds;
 pub mod pools;
 pub mod schedd;
 pub mod startds;
-
-

@@ -3,11 +3,11 @@
 ghost use Rattle.std.specs.Prelude.{◌≡◌, IfOk};
 ghost use Rattle.pool_view.specs.Ads.{core_of};
 
+use ad_tree::Ad;
 use ad_value::names::job::JOB_STATUS;
 use ad_value::names::pool::{
     EXIT_BY_SIGNAL, EXIT_CODE, EXIT_SIGNAL, HOLD_REASON, LEASE_UNTIL, RUN_CLAIM, RUN_NUMBER,
 };
-use ad_tree::Ad;
 use ad_value::{Copied, Memory};
 use std::alloc::Global;
 

@@ -6,9 +6,9 @@ ghost use Rattle.claim_id.specs.declared.numbers.ClaimId.{ClaimId};
 ghost use Rattle.schedd_state.specs.Reopening.{IsReader, claim_in, claim_in_tree};
 ghost use Rattle.pool_shown.specs.ShownJobs.{run_in, shown_state, under_state};
 
-use ad_value::names::pool::RUN_CLAIM;
 use ad_tree::{Ad, Expr};
 use ad_value::Value;
+use ad_value::names::pool::RUN_CLAIM;
 use claim_id::{ClaimId, RunNo};
 use pool_view::State;
 use queue_tx::{JobKind, kind_of};

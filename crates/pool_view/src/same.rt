@@ -5,8 +5,8 @@ ghost use Rattle.pool_view.specs.Ads.{core_of};
 
 use crate::run::Run;
 use ad_eval::Judged;
-use ad_value::names::is_pool_name;
 use ad_tree::{Ad, Expr};
+use ad_value::names::is_pool_name;
 
 impl Run {
     /// Whether both are the same, the ads of their matches as spelled and in the same order,

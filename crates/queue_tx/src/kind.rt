@@ -4,10 +4,10 @@ ghost use Rattle.queue_tx.specs.Jobs.{kind_under};
 ghost use Rattle.queue_tx.specs.Kinds.{kind_of, kind_numbered, status_kind};
 
 use crate::key::Key;
-use ad_value::names::job::JOB_STATUS;
-use ad_value::names::pool::RUN_CLAIM;
 use ad_tree::{Ad, Expr};
 use ad_value::Value;
+use ad_value::names::job::JOB_STATUS;
+use ad_value::names::pool::RUN_CLAIM;
 
 /// What a job of the queue is (HTCondor manual, Job ClassAd Attributes, JobStatus).
 #[derive(Clone, Copy, Debug, PartialEq, Eq)]

@@ -5,9 +5,9 @@ ghost use Rattle.queue_tx.specs.Periodic.{has_periodic, is_periodic, periodic_ke
 use crate::kept::{Here, KeySet, clear, set};
 use crate::key::Key;
 use crate::kind::kind_of;
-use ad_value::names::job::{PERIODIC_HOLD, PERIODIC_RELEASE, PERIODIC_REMOVE};
 use ad_tree::Ad;
 use ad_value::Memory;
+use ad_value::names::job::{PERIODIC_HOLD, PERIODIC_RELEASE, PERIODIC_REMOVE};
 use ordered_map::NewEntry;
 use std::alloc::Global;
 

@@ -6,13 +6,13 @@ ghost use Rattle.queue_tx.specs.RequestDigests.{asked_digest, request_digest};
 ghost use Rattle.queue_tx.specs.Requests.{is_asked, AgreesAt, AsksWithin, SameRequest};
 
 use ad_rows::attribute_digest;
+use ad_tree::{Ad, Expr};
 use ad_value::names::is_run_name;
 use ad_value::names::job::{
     ARGS, ARGUMENTS, CLUSTER_ID, CMD, ERR, IN, IWD, JOB_PRIO, JOB_STATUS, OUT, PROC_ID, Q_DATE,
     USER_LOG,
 };
 use ad_value::names::pool::HOLD_REASON;
-use ad_tree::{Ad, Expr};
 use ad_value::same_name;
 
 /// Whether the ads of two jobs make the same request: they agree in all attributes but those that

@@ -5,8 +5,8 @@ ghost use Rattle.queue_tx.specs.Room.{header_names, is_full_of_own, is_kept_name
 
 use crate::key::Key;
 use crate::names::{MAX_OWN_OF_HEADER, MAX_OWN_OF_PROC, MOVING, NEXT_CLUSTER_NUM, NEXT_RUN_NUM};
-use ad_value::names::is_pool_name;
 use ad_tree::Ad;
+use ad_value::names::is_pool_name;
 use ad_value::same_name;
 
 /// Whether the ad under a key has no room for an attribute of that name, without memory. Computes

@@ -8,12 +8,14 @@ ghost use Rattle.schedd_state.specs.Schedds.{waits_for};
 ghost use Rattle.schedd_core.specs.Checks.{policy_plan, after_check};
 
 use ad_eval::holds;
-use ad_value::names::job::{PERIODIC_HOLD, PERIODIC_RELEASE, PERIODIC_REMOVE};
 use ad_tree::Ad;
 use ad_value::Memory;
+use ad_value::names::job::{PERIODIC_HOLD, PERIODIC_RELEASE, PERIODIC_REMOVE};
 use claim_id::JobId;
 use queue_tx::{Key, Queue};
-use schedd_plan::{JobPlace, JobPlan, Reason, ad_of, can_be_held, hold_plan, is_waiting, remove_plan, resume_plan};
+use schedd_plan::{
+    JobPlace, JobPlan, Reason, ad_of, can_be_held, hold_plan, is_waiting, remove_plan, resume_plan,
+};
 use schedd_state::{
     ClaimsChange, LeftChange, LooksChange, NewLook, PreparedSchedd, RunsChange, Schedd,
     ScheddChange, ScheddStep,

@@ -13,7 +13,11 @@ use ad_value::{Copied, Memory};
 use claim_id::{ClaimId, ClaimNo, JobId, RunNo};
 use pool_mail::{How, Mail, request_ad};
 use queue_tx::Queue;
-use schedd_plan::{Fate, KeptClaim, MailRow, Reason, Stage, ad_of, denied_row, ended_plan, engages, fate_of_gone, granted_row, hold_plan, let_go, matched_row, order_row, place_of_claim, place_of_run, remove_plan, resume_plan};
+use schedd_plan::{
+    Fate, KeptClaim, MailRow, Reason, Stage, ad_of, denied_row, ended_plan, engages, fate_of_gone,
+    granted_row, hold_plan, let_go, matched_row, order_row, place_of_claim, place_of_run,
+    remove_plan, resume_plan,
+};
 use schedd_state::{ClaimsChange, PreparedSchedd, RunsChange, Schedd, ScheddStep};
 use std::alloc::Global;
 

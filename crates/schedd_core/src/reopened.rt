@@ -10,8 +10,8 @@ ghost use Rattle.schedd_state.specs.Reopening.{IsReader, claim_in, claim_in_tree
 ghost use Rattle.schedd_state.specs.Schedds.{nothing_done};
 ghost use Rattle.schedd_core.specs.Logging.{IsReopened};
 
-use ad_value::names::pool::RUN_CLAIM;
 use ad_tree::{Ad, Expr};
+use ad_value::names::pool::RUN_CLAIM;
 use ad_value::{Copied, Memory, Value};
 use claim_id::{ClaimId, JobId};
 use queue_tx::{JobKind, Queue, kind_of};

@@ -8,14 +8,14 @@ ghost use Rattle.schedd_plan.specs.JobAttributes.{status_of};
 ghost use Rattle.schedd_plan.specs.EndTable.{completion_of, ad_after_exit, is_remove_asked, completed_plan, ended_ad_plan, plan_at_end, failed_plan};
 
 use crate::places::let_go_ad;
+use crate::{Completion, JobPlan, JobStatus, Reason, status_of};
 use ad_eval::holds;
+use ad_tree::{Ad, Expr};
 use ad_value::names::job::{ON_EXIT_HOLD, ON_EXIT_REMOVE};
 use ad_value::names::pool::{EXIT_BY_SIGNAL, EXIT_CODE, EXIT_SIGNAL};
-use ad_tree::{Ad, Expr};
 use ad_value::{Copied, Memory, Value};
 use claim_id::JobId;
 use pool_mail::How;
-use crate::{Completion, JobPlan, JobStatus, Reason, status_of};
 use std::alloc::Global;
 
 // How the program came to its end, where it did.

@@ -3,11 +3,11 @@
 ghost use Rattle.std.specs.Prelude.{◌≡◌, slice_get};
 ghost use Rattle.schedd_plan.specs.MailTable.{after_fate, fate_of_gone, order_row, denied_row, granted_row, matched_row, is_idle_place, fate_at, is_spent_why, is_leaving, is_leaving_in};
 
+use crate::JobPlan;
 use crate::claims::{KeptClaim, Stage, place_of_claim, remove_claim, set_stage};
 use crate::places::JobPlace;
 use claim_id::{ClaimId, ClaimNo, JobId};
 use pool_mail::{Match, Why};
-use crate::JobPlan;
 
 /// What becomes of the claim of a run that is over.
 #[derive(Clone, Copy, Debug, PartialEq, Eq)]

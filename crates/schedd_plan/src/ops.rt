@@ -8,8 +8,8 @@ ghost use Rattle.queue_tx.specs.Operations.{set_attr, delete_attr, new_ad, destr
 ghost use Rattle.queue_tx.specs.declared.key.Key.TheVariants.{Header, Proc};
 ghost use Rattle.schedd_plan.specs.Plans.{status_op, truth_literal, whole_literal};
 
-use ad_value::names::job::JOB_STATUS;
 use ad_tree::Expr;
+use ad_value::names::job::JOB_STATUS;
 use ad_value::{Memory, Text, Value};
 use claim_id::{ClaimId, JobId};
 use queue_tx::{Key, Op, Tx};

@@ -4,8 +4,8 @@ ghost use Rattle.std.specs.Prelude.{◌≡◌};
 ghost use Rattle.schedd_plan.specs.OrderTable.{remove_plan, hold_plan, hold_left, resume_plan, resume_marked, can_be_held, is_waiting};
 
 use crate::places::JobPlace;
-use claim_id::JobId;
 use crate::{JobPlan, JobStatus, Reason};
+use claim_id::JobId;
 
 /// The job is to be removed. Computes in O(1), as do the other orders.
 pub fn remove_plan(place: JobPlace, job: JobId) -> Option<JobPlan>

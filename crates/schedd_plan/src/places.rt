@@ -7,10 +7,10 @@ ghost use Rattle.queue_tx.specs.declared.key.Key.TheVariants.{Proc};
 ghost use Rattle.schedd_plan.specs.JobPlaces.{is_left, job_place, place_in, kind_place, let_go, let_go_ad, is_idle, is_idle_at};
 
 use crate::left::LeftJobs;
+use crate::{JobPlan, JobStatus, reason_of, status_of};
 use ad_tree::Ad;
 use claim_id::JobId;
 use queue_tx::{JobKind, Key, Queue, kind_of};
-use crate::{JobPlan, JobStatus, reason_of, status_of};
 
 /// Where a job stands.
 #[derive(Clone, Copy, Debug, PartialEq, Eq)]

@@ -6,10 +6,10 @@ ghost use Rattle.schedd_plan.specs.JobAttributes.{status_of, reason_of, lease_un
 
 use crate::reason::Reason;
 use crate::status::{JobStatus, status_numbered};
-use ad_value::names::job::JOB_STATUS;
-use ad_value::names::pool::{HOLD_REASON, LEASE_UNTIL, RUN_NUMBER};
 use ad_tree::{Ad, Expr};
 use ad_value::Value;
+use ad_value::names::job::JOB_STATUS;
+use ad_value::names::pool::{HOLD_REASON, LEASE_UNTIL, RUN_NUMBER};
 
 /// What the job's JobStatus says, a literal integer. Takes no memory. Computes as `Ad::get`.
 pub fn status_of(ad: &Ad) -> JobStatus

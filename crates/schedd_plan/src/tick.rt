@@ -8,14 +8,14 @@ ghost use Rattle.schedd_plan.specs.TickTable.{is_after, lease_seconds, seconds_o
 use crate::claims::{KeptClaim, Stage};
 use crate::places::{ad_of, is_idle_at};
 use crate::runs::{KeptRun, has_job_under};
+use crate::{lease_until, natural};
 use ad_eval::eval;
-use ad_value::names::job::JOB_LEASE_DURATION;
 use ad_tree::Ad;
+use ad_value::names::job::JOB_LEASE_DURATION;
 use ad_value::{Memory, Value};
 use claim_id::JobId;
 use pool_mail::{MAX_SECONDS, Settings};
 use queue_tx::Queue;
-use crate::{lease_until, natural};
 use std::alloc::Global;
 
 /// The first line of the tick that is due.

@@ -7,7 +7,10 @@ use crate::looks::Looks;
 use crate::new_look::NewLook;
 use claim_id::{ClaimNo, JobId};
 use queue_tx::Key;
-use schedd_plan::{Fate, JobPlan, KeptClaim, KeptRun, LeftJobs, Stage, place_of_claim, remove_claim, remove_run, set_alive, set_job, set_stage, settle_claim};
+use schedd_plan::{
+    Fate, JobPlan, KeptClaim, KeptRun, LeftJobs, Stage, place_of_claim, remove_claim, remove_run,
+    set_alive, set_job, set_stage, settle_claim,
+};
 use std::mem::replace;
 
 /// What becomes of the jobs that were left.

@@ -22,7 +22,10 @@ use ad_value::{Copied, Memory};
 use claim_id::JobId;
 use pool_mail::{Mail, Settings};
 use queue_tx::{Key, Queue, has_periodic};
-use schedd_plan::{ClaimLine, JobPlace, JobPlan, KeptClaim, KeptRun, LeftJobs, RunLine, TickLine, ad_of, claim_line, due_claim, due_run, engages, is_after, is_before, job_place, run_line};
+use schedd_plan::{
+    ClaimLine, JobPlace, JobPlan, KeptClaim, KeptRun, LeftJobs, RunLine, TickLine, ad_of,
+    claim_line, due_claim, due_run, engages, is_after, is_before, job_place, run_line,
+};
 use std::alloc::Global;
 use std::marker::Model;
 

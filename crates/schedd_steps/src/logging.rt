@@ -13,8 +13,8 @@ ghost use Rattle.schedd_steps.specs.Counting.{with_counts};
 ghost use Rattle.schedd_steps.specs.Ready.{IsLogDeed};
 ghost use Rattle.pool_rules.specs.Logging.{jobs_after, jobs_left_by, leaver_of, leaver_with, outcome_of, run_under, with_leaver};
 
-use ad_value::names::pool::RUN_CLAIM;
 use ad_tree::{Ad, Expr};
+use ad_value::names::pool::RUN_CLAIM;
 use ad_value::{Copied, Memory, Value};
 use claim_id::{ClaimId, RunNo};
 use ordered_map::NewEntry;

@@ -7,13 +7,13 @@ ghost use Rattle.ad_rows.specs.Submitted.{AreSubmitted};
 ghost use Rattle.script_plan.specs.Loads.{load_ad, load_ads, memory_of, next_number};
 
 use ad_rows::{Given, ad_of};
+use ad_tree::{Ad, AdList};
+use ad_value::Memory;
 use ad_value::names::job::{
     ARGS, CLUSTER_ID, CMD, ERR, IN, IWD, JOB_PRIO, JOB_STATUS, JOB_UNIVERSE, OUT, OWNER, PROC_ID,
     Q_DATE, REQUEST_CPUS, REQUEST_DISK, REQUEST_MEMORY,
 };
 use ad_value::names::matching::{RANK, REQUIREMENTS};
-use ad_tree::{Ad, AdList};
-use ad_value::Memory;
 use claim_id::JobId;
 use pool_outer::LAST_READING;
 use std::alloc::Global;

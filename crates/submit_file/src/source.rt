@@ -6,8 +6,8 @@ ghost use Rattle.submit_lines.specs.Values.{GivesValue, some_of};
 ghost use Rattle.submit_file.specs.Origins.{origin_of, setting_for, name_for, value_for, preset_for};
 
 use crate::setting::{LinesSoFar, Setting};
-use ad_value::names::job::OWNER;
 use ad_tree::Expr;
+use ad_value::names::job::OWNER;
 use ad_value::{Text, Value};
 use std::alloc::Global;
 use submit_lines::{Command, ValueError, expression, string_expression};

@@ -4,9 +4,9 @@ ghost use Rattle.ad_rows.specs.Submitted.{own_attributes};
 ghost use Rattle.submit_lines.specs.JobAds.{own_at, added, finished};
 
 use ad_rows::MAX_OWN_ATTRIBUTES;
-use ad_value::names::is_pool_name;
 use ad_tree::{Ad, Expr, SetError};
 use ad_value::Memory;
+use ad_value::names::is_pool_name;
 use std::alloc::Global;
 
 /// The ad of a job that is being made, as long as there is room for its attributes.

@@ -3,9 +3,9 @@ ghost use Rattle.std.specs.List.{prefix_len};
 ghost use Rattle.std.specs.Option.{option_map};
 ghost use Rattle.submit_lines.specs.Names.{is_macro_byte, macro_name, after_name, is_plain_name, is_built_in, is_reserved, is_unsupported, is_in, is_variable, past_my};
 
+use ad_token::{name_length, past_blanks};
 use ad_value::names::is_run_name;
 use ad_value::names::job::{CLUSTER_ID, JOB_STATUS, OWNER, PROC_ID, Q_DATE};
-use ad_token::{name_length, past_blanks};
 
 fn is_macro_byte(b: u8) -> bool
     ensures { result ≡ is_macro_byte b }

@@ -9,11 +9,11 @@ ghost use Rattle.submit_lines.specs.Values.{GivesValue, whole_at, lease_of, amou
 use crate::command::Command;
 use crate::error::ValueError;
 use crate::expressions::{canonical_expression, expression, string_expression};
+use crate::{Amount, AmountUnit, integer, plain_arguments, quoted_arguments, read_amount};
 use ad_rows::{enough, with_enough};
 use ad_tree::Expr;
 use ad_value::{Text, Value};
 use std::alloc::Global;
-use crate::{Amount, AmountUnit, integer, plain_arguments, quoted_arguments, read_amount};
 
 // The longest lease of a job, in seconds.
 const LONGEST_LEASE: i64 = 1_000_000;

@@ -1,7 +1,7 @@
+use ad_tree::{Ad, AdList, Expr, Scope};
 use ad_value::names::job::CMD;
 use ad_value::names::matching::REQUIREMENTS;
 use ad_value::names::slot::START;
-use ad_tree::{Ad, AdList, Expr, Scope};
 use ad_value::{Copied, Memory, Text, Value};
 use claim_id::SlotId;
 use std::alloc::Global;
