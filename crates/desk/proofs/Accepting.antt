@@ -19,7 +19,7 @@ use Rattle.desk.specs.Standing.{HasRoll, Stands, end_mark_of, logged_before, mar
 use Rattle.desk.proofs.Answered.{keeps_answer, kind_of}
 use Rattle.desk.proofs.GivenByMarks.{own_given}
 use Rattle.desk.proofs.Passes.{own_before, own_fits, own_queue, own_stands}
-use Rattle.desk.proofs.Rolls.{HasSameRolls, rolls_same}
+use Rattle.pool_rules.proofs.Rolls.{HasSameRolls, rolls_same}
 use Rattle.pool_rules.specs.Refusals.{IsRefusal}
 use Rattle.pool_state.specs.declared.state.PoolState.{PoolState}
 use Rattle.pool_tables.specs.DaemonTables.{daemon_state}

@@ -8,9 +8,7 @@ pub mod OneMore
 pub mod PassCourse
 pub mod Passes
 pub mod ReactionCourse
-pub mod Readers
 pub mod Refused
-pub mod Rolls
 pub mod ScheddCourse
 pub mod SlotCourse
 pub mod StartdCourse

@@ -25,7 +25,7 @@ use Rattle.queue_tx.specs.Queues.{KeyedAds}
 use Rattle.startd_core.specs.Sound.{IsSound}
 use Rattle.startd_core.specs.Startds.{After, StartdValue, after_end, after_mail, after_reboot, after_tick}
 use Rattle.desk.proofs.PassCourse.{WellGoes, boot_well, end_well, mail_well, tick_well}
-use Rattle.desk.proofs.Readers.{some_reads}
+use Rattle.pool_rules.proofs.Readers.{some_reads}
 
 -- ---- machines, one of which stands anew
 set_elsewhere : (xs : List StartdValue) (i place : ℕ) (x : StartdValue) → i ≢ place → slice_get (slice_set xs i x) place ≡ slice_get xs place

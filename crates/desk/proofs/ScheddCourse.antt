@@ -42,7 +42,7 @@ use Rattle.schedd_plan.specs.declared.plan.JobPlan.{JobPlan}
 use Rattle.startd_core.specs.Startds.{After, StartdValue, after_end, after_mail, after_reboot, after_tick}
 use Rattle.desk.specs.Standing.{LogStands}
 use Rattle.desk.proofs.LogCourse.{LogGoesOn, QueueGoesOn, kept_list, logged_goes, logged_list, lost_goes, none_logged, planned_goes, queue_logs, queue_stays, same_goes}
-use Rattle.desk.proofs.Readers.{some_reads}
+use Rattle.pool_rules.proofs.Readers.{some_reads}
 use Rattle.desk.proofs.Refused.{IsOfPending, kept_pending, none_first, none_head, none_rest, none_then, not_pending, of_pending}
 
 -- ---- events that don't log

@@ -9,7 +9,7 @@ use Rattle.pool_rules.specs.Happens.{Reacts}
 use Rattle.pool_rules.specs.Limits.{IsWithin}
 use Rattle.pool_safety.specs.Counted.{CountsBytes}
 use Rattle.pool_safety.proofs.Counting.{event_counts}
-use Rattle.pool_safety.proofs.Readers.{some_reads}
+use Rattle.pool_rules.proofs.Readers.{some_reads}
 use Rattle.pool_state.specs.Openings.{CanOpen, IsOpenedBy}
 use Rattle.pool_state.specs.declared.opening.Opening.{Opening}
 use Rattle.pool_state.specs.declared.state.PoolState.{PoolState}

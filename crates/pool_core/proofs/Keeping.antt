@@ -27,7 +27,7 @@ use Rattle.pool_safety.proofs.LogEvents.{event_loggable}
 use Rattle.pool_safety.proofs.PoolEvents.{event_keeps}
 use Rattle.pool_safety.proofs.PoolOpening.{opening_is_kept}
 use Rattle.pool_safety.proofs.PoolViews.{view_shows}
-use Rattle.pool_safety.proofs.Readers.{some_reads}
+use Rattle.pool_rules.proofs.Readers.{some_reads}
 use Rattle.pool_safety.proofs.ScheddFew.{event_few, opening_few}
 use Rattle.pool_safety.specs.Histories.{Accepts, HasView, LaunchesRun, MovesView}
 use Rattle.pool_safety.specs.Kept.{GoesOn, IsPendingTx, IsTxOf}

@@ -1,1 +1,3 @@
 mod LiveMatches
+pub mod Readers
+pub mod Rolls

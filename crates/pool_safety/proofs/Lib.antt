@@ -32,7 +32,6 @@ pub mod PoolJobs
 pub mod PoolOpening
 pub mod PoolSent
 pub mod PoolViews
-pub mod Readers
 pub mod Refusing
 pub mod Returning
 pub mod Reviewing

@@ -32,7 +32,7 @@ use Rattle.pool_parts.specs.Loggable.{BringsPrintableKeys, CanBeLogged, IsLoggab
 use Rattle.pool_safety.specs.Unfinished.{CanFinish}
 use Rattle.pool_safety.proofs.LogPools.{queue_of}
 use Rattle.pool_parts.proofs.Rooms.{keys_stay, room_stays}
-use Rattle.pool_safety.proofs.Readers.{some_reads}
+use Rattle.pool_rules.proofs.Readers.{some_reads}
 
 -- ---- the queue of a pool after an event
 abbrev Queues : PoolState → PoolState → Type 0

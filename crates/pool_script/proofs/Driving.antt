@@ -8,7 +8,7 @@ use Rattle.pool_lines.specs.Marks.{RollMarks}
 use Rattle.pool_rules.specs.Happens.{Reacts}
 use Rattle.pool_outer.specs.declared.gate.Daemon.{Daemon}
 use Rattle.pool_outer.specs.declared.gate.Daemon.TheVariants.{Schedd, Startd, Matchmaker}
-use Rattle.desk.proofs.Rolls.{rolls_same}
+use Rattle.pool_rules.proofs.Rolls.{rolls_same}
 use Rattle.pool_state.specs.declared.opening.Opening.{Opening}
 use Rattle.pool_state.specs.declared.state.PoolState.{PoolState}
 use Rattle.pool_state.specs.Openings.{CanOpen, IsOpenedBy}

@@ -1,4 +1,4 @@
-use Rattle.desk.proofs.Rolls.{rolls_same}
+use Rattle.pool_rules.proofs.Rolls.{rolls_same}
 use Rattle.desk.proofs.standing.rolls_stay.Goals as goal
 
 pub returns : goal.returns

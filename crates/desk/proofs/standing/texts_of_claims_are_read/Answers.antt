@@ -1,4 +1,4 @@
-use Rattle.desk.proofs.Readers.{some_reads}
+use Rattle.pool_rules.proofs.Readers.{some_reads}
 use Rattle.desk.proofs.standing.texts_of_claims_are_read.Goals as goal
 
 pub returns : goal.returns

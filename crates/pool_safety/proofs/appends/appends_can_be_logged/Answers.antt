@@ -1,6 +1,6 @@
 use Rattle.pool_safety.proofs.LogAnswers.{event_finishes}
 use Rattle.pool_safety.proofs.LogAppends.{answers_can_be_logged}
-use Rattle.pool_safety.proofs.Readers.{some_reads}
+use Rattle.pool_rules.proofs.Readers.{some_reads}
 use Rattle.pool_safety.proofs.appends.appends_can_be_logged.Goals as goal
 
 pub returns-clause-unfinished : goal.returns-clause-unfinished

@@ -1,5 +1,5 @@
 use Rattle.pool_safety.proofs.HistoryCounts.{history_bytes, history_counted}
-use Rattle.pool_safety.proofs.Readers.{some_reads}
+use Rattle.pool_rules.proofs.Readers.{some_reads}
 use Rattle.pool_safety.proofs.counts.counts_are_exact.Goals as goal
 
 pub returns-clause-jobs : goal.returns-clause-jobs

@@ -1,5 +1,5 @@
 use Rattle.pool_safety.proofs.Counting.{event_counted, event_counts, opening_counted}
-use Rattle.pool_safety.proofs.Readers.{some_reads}
+use Rattle.pool_rules.proofs.Readers.{some_reads}
 use Rattle.pool_safety.proofs.counts.counts_are_kept.Goals as goal
 
 pub returns-clause-openings : goal.returns-clause-openings

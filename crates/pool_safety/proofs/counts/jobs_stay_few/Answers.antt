@@ -1,5 +1,5 @@
 use Rattle.pool_safety.proofs.FewJobs.{event_few_jobs, history_few_jobs, opening_few_jobs}
-use Rattle.pool_safety.proofs.Readers.{some_reads}
+use Rattle.pool_rules.proofs.Readers.{some_reads}
 use Rattle.pool_safety.proofs.counts.jobs_stay_few.Goals as goal
 
 pub returns-clause-openings : goal.returns-clause-openings

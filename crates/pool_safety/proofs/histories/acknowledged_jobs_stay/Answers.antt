@@ -1,7 +1,7 @@
 use Rattle.pool_safety.proofs.HistoryJobs.{history_known, history_rightly}
 use Rattle.pool_safety.proofs.HistoryKept.{history_moves, leads_acked}
 use Rattle.pool_safety.proofs.HistorySteps.{takes_done}
-use Rattle.pool_safety.proofs.Readers.{some_reads}
+use Rattle.pool_rules.proofs.Readers.{some_reads}
 use Rattle.pool_safety.proofs.histories.acknowledged_jobs_stay.Goals as goal
 
 pub returns-clause-acknowledged : goal.returns-clause-acknowledged

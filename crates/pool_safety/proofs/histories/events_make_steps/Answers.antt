@@ -1,5 +1,5 @@
 use Rattle.pool_safety.proofs.HistoryKept.{event_steps, history_moves}
-use Rattle.pool_safety.proofs.Readers.{some_reads}
+use Rattle.pool_rules.proofs.Readers.{some_reads}
 use Rattle.pool_safety.proofs.histories.events_make_steps.Goals as goal
 
 pub returns-clause-event : goal.returns-clause-event

@@ -1,6 +1,6 @@
 use Rattle.pool_safety.proofs.HistoryKept.{history_kept, history_shows}
 use Rattle.pool_safety.proofs.PoolViews.{view_shows}
-use Rattle.pool_safety.proofs.Readers.{some_reads}
+use Rattle.pool_rules.proofs.Readers.{some_reads}
 use Rattle.pool_safety.proofs.histories.histories_are_kept.Goals as goal
 
 pub returns-clause-kept : goal.returns-clause-kept

@@ -1,5 +1,5 @@
 use Rattle.pool_safety.proofs.HistoryKept.{history_safe}
-use Rattle.pool_safety.proofs.Readers.{some_reads}
+use Rattle.pool_rules.proofs.Readers.{some_reads}
 use Rattle.pool_safety.proofs.histories.histories_are_safe.Goals as goal
 
 pub returns-clause-safe : goal.returns-clause-safe

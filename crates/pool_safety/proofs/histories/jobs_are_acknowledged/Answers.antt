@@ -1,6 +1,6 @@
 use Rattle.pool_safety.proofs.HistoryJobs.{submitted_acked}
 use Rattle.pool_safety.proofs.PoolOpening.{listed_jobs}
-use Rattle.pool_safety.proofs.Readers.{some_reads}
+use Rattle.pool_rules.proofs.Readers.{some_reads}
 use Rattle.pool_safety.proofs.histories.jobs_are_acknowledged.Goals as goal
 
 pub returns-clause-opening : goal.returns-clause-opening

@@ -1,5 +1,5 @@
 use Rattle.pool_safety.proofs.HistoryLaunches.{launched_matched}
-use Rattle.pool_safety.proofs.Readers.{some_reads}
+use Rattle.pool_rules.proofs.Readers.{some_reads}
 use Rattle.pool_safety.proofs.histories.launches_are_matched.Goals as goal
 
 pub returns : goal.returns

@@ -1,7 +1,7 @@
 use Rattle.std.proofs.Common.{◌∙◌, ap}
 use Rattle.pool_safety.specs.Histories.{latest_in}
 use Rattle.pool_safety.proofs.HistoryKept.{leads_latest}
-use Rattle.pool_safety.proofs.Readers.{some_reads}
+use Rattle.pool_rules.proofs.Readers.{some_reads}
 use Rattle.pool_safety.proofs.histories.moments_are_readings.Goals as goal
 
 pub returns : goal.returns

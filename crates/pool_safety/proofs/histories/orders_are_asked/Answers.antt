@@ -1,5 +1,5 @@
 use Rattle.pool_safety.proofs.HistoryKept.{history_asked, reacts_leaves}
-use Rattle.pool_safety.proofs.Readers.{some_reads}
+use Rattle.pool_rules.proofs.Readers.{some_reads}
 use Rattle.pool_safety.proofs.histories.orders_are_asked.Goals as goal
 
 pub returns-clause-event : goal.returns-clause-event

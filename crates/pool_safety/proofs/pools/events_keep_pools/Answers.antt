@@ -1,5 +1,5 @@
 use Rattle.pool_safety.proofs.PoolEvents.{event_keeps}
-use Rattle.pool_safety.proofs.Readers.{some_reads}
+use Rattle.pool_rules.proofs.Readers.{some_reads}
 use Rattle.pool_safety.proofs.pools.events_keep_pools.Goals as goal
 
 pub returns : goal.returns

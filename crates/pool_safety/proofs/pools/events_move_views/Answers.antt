@@ -1,6 +1,6 @@
 use Rattle.pool_safety.proofs.HistoryKept.{accepted_steps}
 use Rattle.pool_safety.proofs.HistoryLaunches.{accepted_launches}
-use Rattle.pool_safety.proofs.Readers.{some_reads}
+use Rattle.pool_rules.proofs.Readers.{some_reads}
 use Rattle.pool_safety.proofs.pools.events_move_views.Goals as goal
 
 pub returns-clause-steps : goal.returns-clause-steps

@@ -24,7 +24,7 @@ use Rattle.pool_tables.specs.DaemonTables.{DaemonsValue, crashed, reopened, set_
 use Rattle.pool_tables.specs.OrderTables.{is_due_for}
 use Rattle.queue_tx.specs.Queues.{KeyedAds}
 use Rattle.startd_core.specs.Startds.{After, StartdValue, after_end, after_mail, after_reboot, after_tick}
-use Rattle.desk.proofs.Readers.{some_reads}
+use Rattle.pool_rules.proofs.Readers.{some_reads}
 
 -- the pool has the same rolls, and the same daemons
 pub record HasSameRolls (s new : PoolState) : Type 0 where
