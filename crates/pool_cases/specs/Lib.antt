@@ -1,0 +1,4 @@
+pub mod Driven
+pub mod Logged
+pub mod Marks
+pub mod Opened

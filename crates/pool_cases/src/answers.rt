@@ -1,29 +1,73 @@
-use cases::{Case, CaseError, read_cases};
-use pool_script::PoolScript;
-use std::alloc::Global;
+// Answers to accepted events.
 
-/// Appends the answers to the cases of a text, a line each; what is set up has none.
-pub(crate) fn answer_all(alloc: Global, input: &str, out: &mut String) -> Result<(), CaseError> {
-    let mut script = PoolScript::none();
-    for case in &read_cases(alloc, input)? {
-        answer_line(alloc, *case, &mut script, out)?;
-    }
-    Ok(())
-}
+use cases::{CaseError, escape};
+use claim_id::{JobId, RunNo};
+use daemon_texts::{write_job, write_launch, write_run, write_runs};
+use pool_outer::Launch;
+use pool_parts::Answer;
+use queue_record::{PrintError, print_tx};
+use queue_tx::Tx;
+use startd_core::{Permit, RunList};
+use std::alloc::{AllocError, Global};
+use std::fmt::Write;
 
-fn answer_line(
+/// Appends `ok` and an answer, each part behind a tab.
+pub(crate) fn write_answer(
     alloc: Global,
-    case: Case<'_>,
-    script: &mut PoolScript,
+    answer: Answer,
     out: &mut String,
 ) -> Result<(), CaseError> {
-    match case.kind {
-        "new-pool" => script.begin(alloc, case),
-        "slot" | "queue" | "wish" | "crash-line" | "repeat-line" => script.go_on(alloc, case),
-        _ => {
-            script.answer(alloc, case, out)?;
-            out.push('\n')?;
+    match answer {
+        Answer::Done => {
+            out.push_str("ok\tDone")?;
+            Ok(())
+        }
+        Answer::Append { number, tx } => write_append(alloc, number, &tx, out),
+        Answer::Launch { permit } => {
+            write_permit(permit, out)?;
+            Ok(())
+        }
+        Answer::Kill { runs } => {
+            write_kill(&runs, out)?;
             Ok(())
         }
     }
+}
+
+fn write_append(alloc: Global, number: u64, tx: &Tx, out: &mut String) -> Result<(), CaseError> {
+    write!(out, "ok\tAppend\t{number}\t")?;
+    match print_tx(alloc, tx) {
+        Ok(text) => {
+            escape(text.as_str(), out)?;
+            Ok(())
+        }
+        Err(PrintError::TooLong { .. }) => {
+            out.push_str("TooLong")?;
+            Ok(())
+        }
+        Err(PrintError::Memory) => Err(CaseError::Memory),
+    }
+}
+
+fn write_permit(permit: Permit, out: &mut String) -> Result<(), AllocError> {
+    let (run, job, what) = permit.spend();
+    write_launched(run, job, &what, out)
+}
+
+fn write_launched(
+    run: RunNo,
+    job: JobId,
+    what: &Launch,
+    out: &mut String,
+) -> Result<(), AllocError> {
+    out.push_str("ok\tLaunch\t")?;
+    write_run(run, out)?;
+    out.push('\t')?;
+    write_job(job, out)?;
+    write_launch(what, out)
+}
+
+fn write_kill(runs: &RunList, out: &mut String) -> Result<(), AllocError> {
+    out.push_str("ok\tKill")?;
+    write_runs(runs.as_slice(), out)
 }

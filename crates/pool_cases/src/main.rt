@@ -3,8 +3,28 @@
 #![tactic(auto)]
 
 mod answers;
+mod asks;
+mod course;
+mod course_lines;
+mod events;
+mod fields;
+mod judging;
+mod keys;
+mod lines;
+mod loggable_jobs;
+mod matched;
+mod open;
+mod opening;
+mod outcome;
+mod receipts;
+mod refusals;
+mod rolls;
+mod script;
+mod setup;
+mod times;
+mod views;
 
-use crate::answers::answer_all;
+use crate::lines::answer_all;
 use anyhow::Result;
 use std::io;
 
@@ -12,7 +32,7 @@ fn main(rt: HostRuntime) -> Result<()> {
     let alloc = rt.alloc();
     let input = io::read_to_string(alloc, rt.reader())?;
     let mut answers = String::new(alloc);
-    answer_all(alloc, input.as_str(), &mut answers)?;
+    answer_all(&rt, input.as_str(), &mut answers)?;
     print!(rt; "{answers}")?;
     Ok(())
 }

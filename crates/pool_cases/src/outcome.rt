@@ -1,0 +1,10 @@
+use ad_value::Memory;
+use cases::CaseError;
+
+/// The value, or the fault that there is no memory. Computes in O(1).
+pub(crate) fn memory<T: Drop>(outcome: Result<T, Memory>) -> Result<T, CaseError> {
+    match outcome {
+        Ok(value) => Ok(value),
+        Err(Memory) => Err(CaseError::Memory),
+    }
+}

@@ -1,5 +1,0 @@
-mod Given
-mod Idle
-mod Logging
-mod Marked
-mod QueueKeys
