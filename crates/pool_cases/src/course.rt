@@ -329,16 +329,16 @@ impl Course {
 // The event that a line says, which may be given to the pool.
 fn event_in(
     alloc: Global,
-    open: &mut OpenPool,
+    pool: &mut OpenPool,
     line: &str,
     fault: CaseError,
 ) -> Result<Event, CaseError>
-    ensures marks { open.new ≡ open.old }
-    ensures given { IfOk result (IsGivenBy open.old) }
+    ensures marks { pool.new ≡ pool.old }
+    ensures given { IfOk result (IsGivenBy pool.old) }
 {
     let cases = read_cases(alloc, line)?;
     match cases.first() {
-        Some(case) => open.read_event(alloc, *case),
+        Some(case) => pool.read_event(alloc, *case),
         None => Err(fault),
     }
 }
