@@ -1,4 +1,4 @@
-ghost use Rattle.pool_settings.specs.Configuration.{configuration_of, IsWithinLimits};
+ghost use Rattle.pool_config.specs.Configuration.{configuration_of, IsWithinLimits};
 
 use crate::macros::write_macro_error;
 use crate::submissions::write_ad;
@@ -6,8 +6,7 @@ use ad_parse::print_expr;
 use ad_tree::{Ad, Expr};
 use ad_value::UserNumberList;
 use cases::{Case, CaseError, escape};
-use pool_config::{ConfiguredSlot, configured_slots, read};
-use pool_settings::{Config, ConfigError, Machine};
+use pool_config::{Config, ConfigError, ConfiguredSlot, Machine, configured_slots, read};
 use std::alloc::{AllocError, Global};
 use std::fmt::Write;
 

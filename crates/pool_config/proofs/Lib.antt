@@ -1,8 +1,11 @@
 pub mod EachSlots
+pub mod Expressions
 pub mod Limits
+pub mod Machines
 pub mod OneOutcome
 pub mod Own
+pub mod Owners
 pub mod Readings
 pub mod SlotLemmas
 pub mod Times
-pub mod Owners
+pub mod UserLemmas

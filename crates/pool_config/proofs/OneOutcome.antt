@@ -10,12 +10,12 @@ use Rattle.line_text.proofs.EveryOutcome.{every_outcome}
 use Rattle.line_text.proofs.LawLemmas.{texts_are_one}
 use Rattle.line_text.proofs.OneOutcome.{not_met, not_passed}
 use Rattle.line_text.proofs.OneRefusal.{one_refusal}
-use Rattle.pool_settings.specs.declared.error.ConfigError.{ConfigError}
-use Rattle.pool_settings.specs.declared.error.ConfigError.TheVariants as error
-use Rattle.pool_settings.specs.Configuration.{Configuration, ConfiguredMachine}
-use Rattle.pool_settings.specs.Keys.{Sets}
+use Rattle.pool_config.specs.declared.error.ConfigError.{ConfigError}
+use Rattle.pool_config.specs.declared.error.ConfigError.TheVariants as error
+use Rattle.pool_config.specs.Configuration.{Configuration, ConfiguredMachine}
+use Rattle.pool_config.specs.Keys.{Sets}
 use Rattle.pool_config.specs.Names.{name_sets, setting_in}
-use Rattle.pool_settings.specs.Settings.{set_to, whole, is_homeless}
+use Rattle.pool_config.specs.Settings.{set_to, whole, is_homeless}
 use Rattle.pool_config.specs.Lines.{LinesSoFar, ReadResult, TakesValue, no_expansion, expanded, TakesKey, homeless, takes, TakesSetting, unknown, known, TakesLine, no_setting, sets, Reads, ended, no_machine, refuses, and_line, and_macro, begun, IsConfiguration}
 use Rattle.pool_config.specs.Laws.{none, one_more, IsFirstRefused}
 

@@ -7,10 +7,10 @@ use Rattle.ad_tree.specs.Ad.{Attributes, lookup, names, with_attribute}
 use Rattle.ad_tree.specs.Tree.{Tree}
 use Rattle.ad_token.specs.Names.{is_name}
 use Rattle.ad_value.specs.Groups.{pool_names}
-use Rattle.pool_settings.specs.declared.word.PoolWord.{PoolWord}
-use Rattle.pool_settings.specs.declared.word.SlotWord.{SlotWord}
-use Rattle.pool_settings.specs.Configuration.{ConfiguredMachine}
-use Rattle.pool_settings.specs.Keys.{Sets, of_pool, ceiling, prio_factor, of_slots, attribute}
+use Rattle.pool_config.specs.declared.setting_word.PoolWord.{PoolWord}
+use Rattle.pool_config.specs.declared.setting_word.SlotWord.{SlotWord}
+use Rattle.pool_config.specs.Configuration.{ConfiguredMachine}
+use Rattle.pool_config.specs.Keys.{Sets, of_pool, ceiling, prio_factor, of_slots, attribute}
 use Rattle.pool_config.specs.Names.{slot_attributes, job_attributes, is_taken, attribute_sets, user_sets, dotted_sets, pool_words, pool_word_name, slot_words, slot_word_name, sets_with, name_sets, or_else, cut_at}
 use Rattle.pool_config.specs.Slots.{pool_attributes, slot_ad, with_attributes}
 use Rattle.ad_value.specs.Bytes.{code}

@@ -7,14 +7,14 @@ use Rattle.line_text.specs.declared.error.MacroError.TheVariants as macro
 use Rattle.line_text.specs.declared.logical.Line.{Line}
 use Rattle.line_text.specs.Lines.{logical_lines}
 use Rattle.line_text.specs.Expansion.{IsExpansion, IsRefused}
-use Rattle.pool_settings.specs.declared.error.ConfigError.{ConfigError}
-use Rattle.pool_settings.specs.declared.error.ConfigError.TheVariants as error
-use Rattle.pool_settings.specs.declared.key.Key.{Key}
-use Rattle.pool_settings.specs.Configuration.{ConfiguredMachine}
-use Rattle.pool_settings.specs.Errors.{UnlessMemory, changed_to, Becomes}
-use Rattle.pool_settings.specs.Keys.{Sets, sets_of}
+use Rattle.pool_config.specs.declared.error.ConfigError.{ConfigError}
+use Rattle.pool_config.specs.declared.error.ConfigError.TheVariants as error
+use Rattle.pool_config.specs.declared.key.Key.{Key}
+use Rattle.pool_config.specs.Configuration.{ConfiguredMachine}
+use Rattle.pool_config.specs.Errors.{UnlessMemory, changed_to, Becomes}
+use Rattle.pool_config.specs.Keys.{Sets, sets_of}
 use Rattle.pool_config.specs.Names.{setting_in, name_sets}
-use Rattle.pool_settings.specs.Settings.{set_to, whole, is_homeless}
+use Rattle.pool_config.specs.Settings.{set_to, whole, is_homeless}
 use Rattle.pool_config.specs.Lines.{LinesSoFar, ReadResult, TakesValue, no_expansion, expanded, TakesKey, homeless, takes, TakesSetting, unknown, known, TakesLine, no_setting, sets, Reads, ended, no_machine, refuses, and_line, TakesLines, macro_fault, and_macro, begun, IsConfiguration}
 
 pub unless : {X : Type 0} (P : Result X ConfigError → Type 0) (r : Result X ConfigError) → P r → UnlessMemory P r

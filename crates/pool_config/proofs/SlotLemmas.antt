@@ -8,8 +8,8 @@ use Rattle.ad_rows.specs.declared.rows.Given.{Given}
 use Rattle.ad_rows.specs.declared.rows.Given.TheVariants as given
 use Rattle.ad_tree.specs.Ad.{Attributes}
 use Rattle.ad_tree.specs.declared.tree.Expr.{Expr}
-use Rattle.pool_settings.specs.declared.config.Machine.{Machine}
-use Rattle.pool_settings.specs.Configuration.{Configuration, ConfiguredMachine, machine_of, total_slots}
+use Rattle.pool_config.specs.declared.config.Machine.{Machine}
+use Rattle.pool_config.specs.Configuration.{Configuration, ConfiguredMachine, machine_of, total_slots}
 use Rattle.pool_config.specs.declared.slots.ConfiguredSlot.{ConfiguredSlot}
 use Rattle.pool_config.specs.Slots.{and_attribute, with_attributes, configured_slot, configured_slots, slots_upto, slots_from}
 

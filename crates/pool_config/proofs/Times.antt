@@ -4,16 +4,16 @@ use Rattle.line_text.specs.declared.logical.Line.{Line}
 use Rattle.line_text.specs.Expansion.{IsExpansion}
 use Rattle.line_text.specs.Lines.{logical_lines}
 use Rattle.line_text.specs.Macros.{Macros}
-use Rattle.pool_settings.specs.declared.error.ConfigError.{ConfigError}
-use Rattle.pool_settings.specs.declared.word.Interval.{Interval}
-use Rattle.pool_settings.specs.declared.word.Interval.TheVariants as interval
-use Rattle.pool_settings.specs.declared.word.PoolWord.{PoolWord}
-use Rattle.pool_settings.specs.declared.word.PoolWord.TheVariants as pool
+use Rattle.pool_config.specs.declared.error.ConfigError.{ConfigError}
+use Rattle.pool_config.specs.declared.setting_word.Interval.{Interval}
+use Rattle.pool_config.specs.declared.setting_word.Interval.TheVariants as interval
+use Rattle.pool_config.specs.declared.setting_word.PoolWord.{PoolWord}
+use Rattle.pool_config.specs.declared.setting_word.PoolWord.TheVariants as pool
 use Rattle.ad_tree.specs.Tree.{Tree}
-use Rattle.pool_settings.specs.Configuration.{Configuration, ConfiguredMachine, total_slots, plain_configuration}
-use Rattle.pool_settings.specs.Keys.{Sets, of_pool, ceiling, prio_factor, of_slots, attribute}
+use Rattle.pool_config.specs.Configuration.{Configuration, ConfiguredMachine, total_slots, plain_configuration}
+use Rattle.pool_config.specs.Keys.{Sets, of_pool, ceiling, prio_factor, of_slots, attribute}
 use Rattle.pool_config.specs.Names.{name_sets, setting_in}
-use Rattle.pool_settings.specs.Settings.{SoFar, and_last, with_machines, with_user, set_to, pool_with, whole, with_value, with_seconds, with_config, seconds_in, owner_in, expression_in, machine_check, begin_if, last_with, with_last, machine_with, attribute_with, ceiling_in, factor_in, ceiling_set, factor_set}
+use Rattle.pool_config.specs.Settings.{SoFar, and_last, with_machines, with_user, set_to, pool_with, whole, with_value, with_seconds, with_config, seconds_in, owner_in, expression_in, machine_check, begin_if, last_with, with_last, machine_with, attribute_with, ceiling_in, factor_in, ceiling_set, factor_set}
 use Rattle.pool_config.specs.Lines.{LinesSoFar, ReadResult, TakesValue, no_expansion, expanded, TakesKey, homeless, takes, TakesSetting, unknown, known, TakesLine, no_setting, sets, Reads, ended, no_machine, refuses, and_line, and_macro, begun, IsConfiguration}
 use Rattle.pool_config.specs.Laws.{seconds_of, GivesName, CountsLast}
 

@@ -3,14 +3,14 @@ use Rattle.std.specs.Prelude.{◌≡◌, ◌⊎◌, ℕ, List, [], ◌∷◌, �
 use Rattle.line_text.specs.declared.logical.Line.{Line}
 use Rattle.line_text.specs.Expansion.{IsExpansion}
 use Rattle.line_text.specs.Macros.{Macros}
-use Rattle.pool_settings.specs.declared.error.ConfigError.{ConfigError}
-use Rattle.pool_settings.specs.declared.word.Interval.{Interval}
-use Rattle.pool_settings.specs.declared.word.Interval.TheVariants as interval
-use Rattle.pool_settings.specs.declared.word.PoolWord.TheVariants as pool
-use Rattle.pool_settings.specs.Configuration.{Configuration}
-use Rattle.pool_settings.specs.Keys.{Sets, of_pool}
+use Rattle.pool_config.specs.declared.error.ConfigError.{ConfigError}
+use Rattle.pool_config.specs.declared.setting_word.Interval.{Interval}
+use Rattle.pool_config.specs.declared.setting_word.Interval.TheVariants as interval
+use Rattle.pool_config.specs.declared.setting_word.PoolWord.TheVariants as pool
+use Rattle.pool_config.specs.Configuration.{Configuration}
+use Rattle.pool_config.specs.Keys.{Sets, of_pool}
 use Rattle.pool_config.specs.Names.{name_sets, setting_in}
-use Rattle.pool_settings.specs.Settings.{seconds_in}
+use Rattle.pool_config.specs.Settings.{seconds_in}
 use Rattle.pool_config.specs.Lines.{LinesSoFar, TakesLine}
 
 -- lines are taken, one after the other

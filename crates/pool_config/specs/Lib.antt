@@ -1,5 +1,11 @@
-pub mod Names
-pub mod Lines
+pub mod Configuration
+pub mod Errors
+pub mod Keys
 pub mod Laws
+pub mod Lines
 pub mod LinesSoFar
+pub mod Names
+pub mod Settings
 pub mod Slots
+pub mod SoFar
+pub mod Users

@@ -7,12 +7,12 @@ use Rattle.line_text.specs.declared.logical.Line.{Line}
 use Rattle.line_text.specs.Expansion.{IsExpansion, IsRefused}
 use Rattle.line_text.specs.Lines.{logical_lines}
 use Rattle.line_text.specs.Macros.{Macros, with_macro}
-use Rattle.pool_settings.specs.declared.error.ConfigError.{ConfigError}
-use Rattle.pool_settings.specs.declared.error.ConfigError.TheVariants as error
-use Rattle.pool_settings.specs.Configuration.{Configuration, ConfiguredMachine, plain_configuration}
-use Rattle.pool_settings.specs.Keys.{Sets}
+use Rattle.pool_config.specs.declared.error.ConfigError.{ConfigError}
+use Rattle.pool_config.specs.declared.error.ConfigError.TheVariants as error
+use Rattle.pool_config.specs.Configuration.{Configuration, ConfiguredMachine, plain_configuration}
+use Rattle.pool_config.specs.Keys.{Sets}
 use Rattle.pool_config.specs.Names.{name_sets, setting_in}
-use Rattle.pool_settings.specs.Settings.{SoFar, is_homeless, set_to, whole}
+use Rattle.pool_config.specs.Settings.{SoFar, is_homeless, set_to, whole}
 
 -- what the lines have set, and the names that they have set as macros
 pub record LinesSoFar : Type 0 where

@@ -1,5 +1,5 @@
 -- What the program keeps of the lines that were taken.
-use Rattle.pool_settings.specs.SoFar.{so_far}
+use Rattle.pool_config.specs.SoFar.{so_far}
 use Rattle.pool_config.specs.declared.file.Reading.{Reading}
 use Rattle.pool_config.specs.Lines.{LinesSoFar}
 

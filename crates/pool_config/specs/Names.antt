@@ -10,13 +10,13 @@ use Rattle.ad_value.specs.Groups.{pool_names}
 use Rattle.ad_token.specs.Lexing.{is_blank}
 use Rattle.ad_token.specs.Names.{is_name, is_name_byte}
 use Rattle.ad_token.specs.Blanks.{trimmed_text}
-use Rattle.pool_settings.specs.declared.word.Interval.{Interval}
-use Rattle.pool_settings.specs.declared.word.Interval.TheVariants as interval
-use Rattle.pool_settings.specs.declared.word.PoolWord.{PoolWord}
-use Rattle.pool_settings.specs.declared.word.PoolWord.TheVariants as pool
-use Rattle.pool_settings.specs.declared.word.SlotWord.{SlotWord}
-use Rattle.pool_settings.specs.declared.word.SlotWord.TheVariants as slot
-use Rattle.pool_settings.specs.Keys.{Sets, of_pool, ceiling, prio_factor, of_slots, attribute}
+use Rattle.pool_config.specs.declared.setting_word.Interval.{Interval}
+use Rattle.pool_config.specs.declared.setting_word.Interval.TheVariants as interval
+use Rattle.pool_config.specs.declared.setting_word.PoolWord.{PoolWord}
+use Rattle.pool_config.specs.declared.setting_word.PoolWord.TheVariants as pool
+use Rattle.pool_config.specs.declared.setting_word.SlotWord.{SlotWord}
+use Rattle.pool_config.specs.declared.setting_word.SlotWord.TheVariants as slot
+use Rattle.pool_config.specs.Keys.{Sets, of_pool, ceiling, prio_factor, of_slots, attribute}
 
 -- ---- words
 

@@ -8,7 +8,7 @@ use Rattle.ad_tree.specs.Ad.{Attributes, with_attribute}
 use Rattle.ad_tree.specs.Tree.{Tree, reference}
 use Rattle.claim_id.specs.declared.numbers.SlotId.{SlotId}
 use Rattle.pool_config.specs.declared.slots.ConfiguredSlot.{ConfiguredSlot}
-use Rattle.pool_settings.specs.Configuration.{Configuration, ConfiguredMachine}
+use Rattle.pool_config.specs.Configuration.{Configuration, ConfiguredMachine}
 
 -- slotK@MACHINE
 abbrev pub slot_name : List ℕ → ℕ → List ℕ

@@ -1,19 +1,19 @@
 // Configurations from text.
 
 ghost use Rattle.std.specs.Prelude.{◌≡◌, [], IfOk};
-ghost use Rattle.pool_settings.specs.Configuration.{configuration_of, outcome, HaveSlots, IsWithinLimits};
-ghost use Rattle.pool_settings.specs.Errors.{Becomes, UnlessMemory, changed_to};
-ghost use Rattle.pool_settings.specs.Keys.{sets_of};
+ghost use Rattle.pool_config.specs.Configuration.{configuration_of, outcome, HaveSlots, IsWithinLimits};
+ghost use Rattle.pool_config.specs.Errors.{Becomes, UnlessMemory, changed_to};
+ghost use Rattle.pool_config.specs.Keys.{sets_of};
 ghost use Rattle.pool_config.specs.Lines.{IsConfiguration, Reads, TakesLines, TakesLine, TakesSetting, TakesKey, TakesValue, and_macro, begun, macro_fault};
-ghost use Rattle.pool_settings.specs.Settings.{set_to};
-ghost use Rattle.pool_settings.specs.SoFar.{so_far};
+ghost use Rattle.pool_config.specs.Settings.{set_to};
+ghost use Rattle.pool_config.specs.SoFar.{so_far};
 ghost use Rattle.pool_config.specs.LinesSoFar.{lines_so_far};
 
 use crate::line::setting_in;
 use crate::name::key_of;
 use ad_value::Memory;
 use line_text::{Line, MacroError, MacroTable, expand, lines};
-use pool_settings::{Config, ConfigError, Key, Settings};
+use crate::{Config, ConfigError, Key, Settings};
 use std::alloc::Global;
 
 /// What was read so far: what lines have set, and the names that they have set as macros.

@@ -3,10 +3,10 @@
 ghost use Rattle.std.specs.Prelude.{◌≡◌, ◌≢◌, ◌++◌, ℕ, List, All, length, Ok, Err, true};
 ghost use Rattle.ad_token.specs.Names.{is_name};
 ghost use Rattle.line_text.specs.Lines.{logical_lines};
-ghost use Rattle.pool_settings.specs.declared.error.ConfigError.{ConfigError};
-ghost use Rattle.pool_settings.specs.declared.error.ConfigError.TheVariants as error;
-ghost use Rattle.pool_settings.specs.declared.word.Interval.{Interval};
-ghost use Rattle.pool_settings.specs.Configuration.{Configuration, plain_configuration, total_slots};
+ghost use Rattle.pool_config.specs.declared.error.ConfigError.{ConfigError};
+ghost use Rattle.pool_config.specs.declared.error.ConfigError.TheVariants as error;
+ghost use Rattle.pool_config.specs.declared.setting_word.Interval.{Interval};
+ghost use Rattle.pool_config.specs.Configuration.{Configuration, plain_configuration, total_slots};
 ghost use Rattle.pool_config.specs.Laws.{CountsLast, IsFirstRefused, seconds_of};
 ghost use Rattle.pool_config.specs.Lines.{IsConfiguration, ReadResult, begun};
 ghost use Rattle.pool_config.specs.Slots.{configured_slots, pool_attributes, slot_ad};

@@ -4,7 +4,7 @@ ghost use Rattle.std.specs.Prelude.{◌≡◌};
 ghost use Rattle.std.specs.List.{list_any};
 ghost use Rattle.std.specs.Option.{option_map};
 ghost use Rattle.ad_value.specs.Names.{same_name};
-ghost use Rattle.pool_settings.specs.Keys.{sets_of};
+ghost use Rattle.pool_config.specs.Keys.{sets_of};
 ghost use Rattle.pool_config.specs.Names.{name_sets, word_sets, dotted_sets, attribute_sets, user_sets, slot_sets, is_taken, slot_attributes, job_attributes};
 
 use crate::line::cut_at;
@@ -20,7 +20,7 @@ use ad_value::names::matching::{RANK, REQUIREMENTS};
 use ad_value::names::slot::{
     ARCH, CPUS, DISK, MACHINE, MEMORY, MY_TYPE, NAME, OP_SYS, SLOT_ID, START,
 };
-use pool_settings::Key;
+use crate::Key;
 
 // What a slot's ad has from the pool.
 const SLOT_ATTRIBUTES: &[&str] = &[

@@ -3,7 +3,7 @@
 ghost use Rattle.std.specs.Prelude.{◌≡◌, ◌≤◌, ◌++◌, length, map, All, IfOk, OnOk, slice_get};
 ghost use Rattle.ad_tree.specs.Ad.{with_attribute};
 ghost use Rattle.ad_tree.specs.Tree.{tree};
-ghost use Rattle.pool_settings.specs.Configuration.{configuration_of, machine_of, total_slots, HasRoom, IsWithinLimits};
+ghost use Rattle.pool_config.specs.Configuration.{configuration_of, machine_of, total_slots, HasRoom, IsWithinLimits};
 ghost use Rattle.pool_config.specs.Slots.{slot_name, slot_ad, pool_attributes, and_attribute, with_attributes, configured_slot, configured_slots, slots_from, slots_upto};
 
 use ad_rows::{Given, ad_of};
@@ -14,7 +14,7 @@ use ad_value::names::slot::{
 };
 use ad_value::{Copied, Memory, Seq, Text};
 use claim_id::SlotId;
-use pool_settings::{Config, MAX_MACHINES, MAX_SLOTS, Machine};
+use crate::{Config, MAX_MACHINES, MAX_SLOTS, Machine};
 use std::alloc::Global;
 
 /// A slot of a configuration.
@@ -61,7 +61,7 @@ pub fn configured_slots(alloc: Global, config: &Config) -> Result<ConfiguredSlot
 }
 
 // The slots of machines.
-#[tactic(auto, using(pool_settings::proofs::Machines::as_many))]
+#[tactic(auto, using(crate::proofs::Machines::as_many))]
 fn slots_of(alloc: Global, machines: &[Machine]) -> Result<ConfiguredSlotList, Memory>
     requires few { length (map machine_of machines.now) ≤ MAX_MACHINES }
     requires slots { total_slots (map machine_of machines.now) ≤ MAX_SLOTS }

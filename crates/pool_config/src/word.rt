@@ -4,7 +4,7 @@ ghost use Rattle.std.specs.Prelude.{◌≡◌, find};
 ghost use Rattle.ad_value.specs.Names.{same_name};
 ghost use Rattle.pool_config.specs.Names.{interval_name, pool_word_name, slot_word_name, pool_words, slot_words};
 
-use pool_settings::{Interval, PoolWord, SlotWord};
+use crate::{Interval, PoolWord, SlotWord};
 
 // All of them.
 const POOL_WORDS: &[PoolWord] = &[

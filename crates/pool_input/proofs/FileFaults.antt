@@ -4,9 +4,9 @@ use Rattle.std.specs.Option.{option_map}
 use Rattle.std.specs.Str.{IsUtf8}
 use Rattle.pool_outer.specs.declared.limit.Which.{Which}
 use Rattle.pool_outer.specs.declared.limit.Which.TheVariants as which
-use Rattle.pool_settings.specs.declared.error.ConfigError.{ConfigError}
-use Rattle.pool_settings.specs.declared.error.ConfigError.TheVariants as config
-use Rattle.pool_settings.specs.Errors.{UnlessMemory}
+use Rattle.pool_config.specs.declared.error.ConfigError.{ConfigError}
+use Rattle.pool_config.specs.declared.error.ConfigError.TheVariants as config
+use Rattle.pool_config.specs.Errors.{UnlessMemory}
 use Rattle.pool_config.specs.Lines.{IsConfiguration}
 use Rattle.submit_file.specs.declared.error.SubmitError.{SubmitError}
 use Rattle.submit_file.specs.declared.error.SubmitError.TheVariants as submit

@@ -2,7 +2,7 @@
 use Rattle.std.proofs.Common.{◌≡◌, ◌∙◌, inl, inr, ℕ, List, Option, None, Result, Ok, Err, IfOk, IfErr, refl, sym, ap, subst}
 use Rattle.ad_tree.specs.Ad.{Attributes}
 use Rattle.pool_outer.specs.Files.{Contents}
-use Rattle.pool_settings.specs.Configuration.{Configuration}
+use Rattle.pool_config.specs.Configuration.{Configuration}
 use Rattle.thin_pool.specs.CourseValue.{CourseValue}
 use Rattle.thin_pool.specs.Histories.{submissions_in}
 use Rattle.thin_pool.specs.declared.slot.PoolSlot.{PoolSlot}

@@ -5,8 +5,8 @@ use Rattle.std.specs.List.{AllZip}
 use Rattle.std.specs.Str.{IsUtf8}
 use Rattle.ad_tree.specs.Ad.{Attributes}
 use Rattle.pool_outer.specs.Files.{Contents}
-use Rattle.pool_settings.specs.Configuration.{Configuration}
-use Rattle.pool_settings.specs.declared.error.ConfigError.{ConfigError}
+use Rattle.pool_config.specs.Configuration.{Configuration}
+use Rattle.pool_config.specs.declared.error.ConfigError.{ConfigError}
 use Rattle.pool_config.specs.Lines.{IsConfiguration, ReadResult}
 use Rattle.pool_config.proofs.OneOutcome.{one_outcome}
 use Rattle.submit_file.specs.SubmittedJobs.{AdsResult, SubmittedJobs}

@@ -1,7 +1,7 @@
 -- The slots of a configuration: each once, each of a machine that is there, and at least one.
 use Rattle.std.proofs.Common.{◌≡◌, ◌≢◌, ◌∙◌, ℕ, zero, suc, ◌+◌, ◌<◌, ◌≤◌, List, [], ◌∷◌, ◌++◌, length, map, Bool, true, false, Some, None, refl, sym, ap, arith, if◌then◌else◌}
 use Rattle.std.proofs.lemmas.List.{map-append}
-use Rattle.pool_settings.specs.Configuration.{Configuration, ConfiguredMachine, HaveSlots, IsWithinLimits}
+use Rattle.pool_config.specs.Configuration.{Configuration, ConfiguredMachine, HaveSlots, IsWithinLimits}
 use Rattle.pool_config.specs.Slots.{configured_slot, slots_upto, slots_from}
 use Rattle.claim_id.specs.declared.numbers.SlotId.{SlotId}
 use Rattle.pool_view.specs.Numbers.{same_slot}

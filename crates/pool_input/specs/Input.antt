@@ -1,9 +1,9 @@
 -- What a run's files are, and when one is refused.
 use Rattle.std.specs.Prelude.{◌≡◌, ◌<◌, ℕ, List, All, map, Option, Some, None, Ok, Err}
 use Rattle.pool_outer.specs.Files.{Contents}
-use Rattle.pool_settings.specs.Configuration.{Configuration}
-use Rattle.pool_settings.specs.declared.config.TheConstants.{MAX_MACHINES}
-use Rattle.pool_settings.specs.declared.error.ConfigError.{ConfigError}
+use Rattle.pool_config.specs.Configuration.{Configuration}
+use Rattle.pool_config.specs.declared.config.TheConstants.{MAX_MACHINES}
+use Rattle.pool_config.specs.declared.error.ConfigError.{ConfigError}
 use Rattle.pool_config.specs.declared.slots.ConfiguredSlot.{ConfiguredSlot}
 use Rattle.pool_config.specs.Lines.{IsConfiguration}
 use Rattle.pool_config.specs.Slots.{configured_slots}

@@ -5,8 +5,8 @@ ghost use Rattle.pool_input.specs.Status.{stage_of, IsAtFiles};
 use crate::files::ReadError;
 use crate::status::{Kind, Status};
 use ad_value::{Memory, Text};
+use pool_config::ConfigError;
 use pool_outer::Which;
-use pool_settings::ConfigError;
 use std::alloc::Global;
 use submit_file::SubmitError;
 

@@ -2,8 +2,8 @@ ghost use Rattle.std.specs.Prelude.{◌≡◌, ◌≤◌, true, [], None, IfOk, 
 ghost use Rattle.std.specs.Str.{IsUtf8};
 ghost use Rattle.pool_outer.specs.Cause.{Rose};
 ghost use Rattle.pool_outer.specs.Files.{SameFiles};
-ghost use Rattle.pool_settings.specs.Configuration.{configuration_of, HaveSlots, IsWithinLimits};
-ghost use Rattle.pool_settings.specs.declared.config.TheConstants.{MAX_MACHINES};
+ghost use Rattle.pool_config.specs.Configuration.{configuration_of, HaveSlots, IsWithinLimits};
+ghost use Rattle.pool_config.specs.declared.config.TheConstants.{MAX_MACHINES};
 ghost use Rattle.thin_pool.specs.Histories.{submissions_in};
 ghost use Rattle.thin_pool.specs.Reactions.{opening_pool};
 ghost use Rattle.pool_input.specs.Faults.{IsFileFault, IsStatusUnlessFault, UnlessFault, UnlessOut};
@@ -19,9 +19,8 @@ use crate::files::read_file;
 use crate::status::{Kind, Status};
 use crate::submitting::submit_files;
 use ad_value::{Copied, Memory, Text};
-use pool_config::{ConfiguredSlot, configured_slots, read};
+use pool_config::{Config, ConfiguredSlot, configured_slots, read};
 use pool_outer::{Clock, Store};
-use pool_settings::Config;
 use std::alloc::Global;
 use thin_pool::{Course, PoolSlot, PoolSlotList};
 

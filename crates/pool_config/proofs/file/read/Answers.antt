@@ -1,5 +1,5 @@
 use Rattle.std.proofs.Common.{◌∙◌}
-use Rattle.pool_settings.specs.Configuration.{outcome}
+use Rattle.pool_config.specs.Configuration.{outcome}
 use Rattle.pool_config.specs.LinesSoFar.{lines_so_far}
 use Rattle.pool_config.proofs.EachSlots.{read_has_slots}
 use Rattle.pool_config.proofs.Limits.{read_within}

@@ -1,5 +1,5 @@
 use Rattle.std.proofs.Common.{ap, sym, ◌∙◌, ◌+◌, [], ◌∷◌, ◌++◌, append_assoc}
-use Rattle.pool_settings.specs.Configuration.{machine_of}
+use Rattle.pool_config.specs.Configuration.{machine_of}
 use Rattle.pool_config.specs.Slots.{configured_slot, slots_upto}
 use Rattle.pool_config.proofs.SlotLemmas.{upto_none, upto_more}
 use Rattle.pool_config.proofs.slots.add_slots.Goals as goal

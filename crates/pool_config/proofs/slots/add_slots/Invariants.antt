@@ -1,6 +1,6 @@
 -- The machine's slots so far.
 use Rattle.std.proofs.Common.{◌≡◌, ◌++◌}
-use Rattle.pool_settings.specs.Configuration.{machine_of}
+use Rattle.pool_config.specs.Configuration.{machine_of}
 use Rattle.pool_config.specs.Slots.{slots_upto}
 use Rattle.pool_config.proofs.slots.add_slots.Given as goal
 

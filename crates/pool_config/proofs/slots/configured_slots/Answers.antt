@@ -1,6 +1,6 @@
 use Rattle.std.proofs.Common.{◌≤◌, All, length, map, subst, sym}
-use Rattle.pool_settings.specs.declared.config.TheConstants.{MAX_MACHINES, MAX_SLOTS}
-use Rattle.pool_settings.specs.Configuration.{machine_of, total_slots, HasRoom}
+use Rattle.pool_config.specs.declared.config.TheConstants.{MAX_MACHINES, MAX_SLOTS}
+use Rattle.pool_config.specs.Configuration.{machine_of, total_slots, HasRoom}
 use Rattle.pool_config.proofs.slots.configured_slots.Goals as goal
 
 pub slots_of-requires-clause-few : goal.slots_of-requires-clause-few

@@ -1,6 +1,6 @@
 use Rattle.std.proofs.Common.{◌≤◌, ◌<◌, ◌+◌, ap, length, map, subst, sym, rules}
-use Rattle.pool_settings.specs.declared.config.TheConstants.{MAX_SLOTS}
-use Rattle.pool_settings.specs.Configuration.{machine_of, HasRoom}
+use Rattle.pool_config.specs.declared.config.TheConstants.{MAX_SLOTS}
+use Rattle.pool_config.specs.Configuration.{machine_of, HasRoom}
 use Rattle.pool_config.specs.Slots.{slots_from}
 use Rattle.pool_config.proofs.Limits.{room_at, slots_at}
 use Rattle.pool_config.proofs.SlotLemmas.{slots_more, slots_end}

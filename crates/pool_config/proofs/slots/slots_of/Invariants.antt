@@ -1,6 +1,6 @@
 -- The slots so far, with those of the machines that are left, are all.
 use Rattle.std.proofs.Common.{◌≡◌, ◌++◌, drop, map}
-use Rattle.pool_settings.specs.Configuration.{machine_of}
+use Rattle.pool_config.specs.Configuration.{machine_of}
 use Rattle.pool_config.specs.Slots.{slots_from}
 use Rattle.pool_config.proofs.slots.slots_of.Given as goal
 

@@ -1,5 +1,5 @@
 use Rattle.std.proofs.Common.{◌∙◌, Err}
-use Rattle.pool_settings.specs.Configuration.{configuration_of}
+use Rattle.pool_config.specs.Configuration.{configuration_of}
 use Rattle.pool_input.specs.Readings.{IsAnyReading}
 use Rattle.pool_input.specs.Words.{file_names}
 use Rattle.pool_input.proofs.Loading.{config_stops, submit_stops, input_of}

@@ -1,5 +1,5 @@
 use Rattle.std.proofs.Common.{◌∙◌, None, sym}
-use Rattle.pool_settings.specs.Configuration.{configuration_of}
+use Rattle.pool_config.specs.Configuration.{configuration_of}
 use Rattle.thin_pool.specs.Histories.{submissions_in}
 use Rattle.thin_pool.specs.Reactions.{opening_pool}
 use Rattle.pool_input.specs.Input.{pool_slots}

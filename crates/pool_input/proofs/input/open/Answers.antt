@@ -1,4 +1,4 @@
-use Rattle.pool_settings.specs.Configuration.{configuration_of}
+use Rattle.pool_config.specs.Configuration.{configuration_of}
 use Rattle.pool_input.proofs.Slots.{slots_once, slots_placed, slots_some}
 use Rattle.pool_input.proofs.input.open.Goals as goal
 

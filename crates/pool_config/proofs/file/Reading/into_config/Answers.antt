@@ -1,5 +1,5 @@
 use Rattle.std.proofs.Common.{sym, ◌∙◌}
-use Rattle.pool_settings.specs.Configuration.{outcome}
+use Rattle.pool_config.specs.Configuration.{outcome}
 use Rattle.pool_config.specs.LinesSoFar.{lines_so_far}
 use Rattle.pool_config.proofs.Readings.{end_read, end_bad}
 use Rattle.pool_config.proofs.file.Reading.into_config.Goals as goal

@@ -1,5 +1,5 @@
 use Rattle.std.proofs.Common.{sym, ◌∙◌}
-use Rattle.pool_settings.specs.Keys.{sets_of}
+use Rattle.pool_config.specs.Keys.{sets_of}
 use Rattle.pool_config.specs.LinesSoFar.{lines_so_far}
 use Rattle.pool_config.proofs.Readings.{key_taken, key_homeless}
 use Rattle.pool_config.proofs.file.Reading.read_key.Goals as goal

@@ -1,4 +1,4 @@
-use Rattle.pool_settings.specs.Keys.{sets_of}
+use Rattle.pool_config.specs.Keys.{sets_of}
 use Rattle.pool_config.specs.LinesSoFar.{lines_so_far}
 use Rattle.pool_config.proofs.Readings.{value_put, value_refused}
 use Rattle.pool_config.proofs.file.Reading.take.Goals as goal

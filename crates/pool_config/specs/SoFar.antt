@@ -1,8 +1,8 @@
 -- What the program keeps of a configuration under way.
 use Rattle.std.specs.Prelude.{option_map}
-use Rattle.pool_settings.specs.declared.settings.Settings.{Settings}
-use Rattle.pool_settings.specs.Configuration.{configuration_of, machine_of}
-use Rattle.pool_settings.specs.Settings.{SoFar}
+use Rattle.pool_config.specs.declared.settings.Settings.{Settings}
+use Rattle.pool_config.specs.Configuration.{configuration_of, machine_of}
+use Rattle.pool_config.specs.Settings.{SoFar}
 
 -- the users' numbers stand apart
 abbrev pub so_far : Settings → SoFar

@@ -2,15 +2,15 @@
 
 ghost use Rattle.std.specs.Prelude.{◌≡◌, map};
 ghost use Rattle.submit_lines.specs.Numbers.{decimal};
-ghost use Rattle.pool_settings.specs.Configuration.{machine_of, total_slots};
-ghost use Rattle.pool_settings.specs.Errors.{Becomes};
-ghost use Rattle.pool_settings.specs.Settings.{machine_with, slots_with, cpus_with, memory_with, disk_with, start_with, rank_with, attribute_with, expression_in, is_full};
+ghost use Rattle.pool_config.specs.Configuration.{machine_of, total_slots};
+ghost use Rattle.pool_config.specs.Errors.{Becomes};
+ghost use Rattle.pool_config.specs.Settings.{machine_with, slots_with, cpus_with, memory_with, disk_with, start_with, rank_with, attribute_with, expression_in, is_full};
 
 use crate::config::{MAX_MACHINE_ATTRIBUTES, Machine};
 use crate::error::ConfigError;
 use crate::settings::are_above;
 use crate::value::{MAX_AMOUNT, expression_in, small_within};
-use crate::word::SlotWord;
+use crate::setting_word::SlotWord;
 use ad_tree::{Ad, SetError};
 use std::alloc::Global;
 use submit_lines::decimal;

@@ -6,8 +6,8 @@ use Rattle.std.specs.String.{string_eq}
 use Rattle.indexmap.specs.IndexMap.{insert_entry, set_value_at}
 use Rattle.indexmap.proofs.MapLemmas.{insert_entry-first, Found-position}
 use Rattle.ad_value.specs.declared.user_number.UserNumber.{UserNumber}
-use Rattle.pool_settings.specs.Settings.{with_user}
-use Rattle.pool_settings.specs.Users.{users_of}
+use Rattle.pool_config.specs.Settings.{with_user}
+use Rattle.pool_config.specs.Users.{users_of}
 
 module _ {A : Type 0} where
   pub users-insert_entry : (es : List (String A × ℕ)) (k : String A) (v : ℕ) → users_of (insert_entry string_eq es k v) ≡ with_user (string_bytes k) v (users_of es)

@@ -11,18 +11,18 @@ use Rattle.ad_parse.specs.declared.error.ParseError.{ParseError}
 use Rattle.ad_parse.specs.declared.error.ParseError.TheVariants as parse
 use Rattle.ad_parse.specs.ExprText.{expression_at}
 use Rattle.submit_lines.specs.Numbers.{decimal}
-use Rattle.pool_settings.specs.declared.config.TheConstants.{MAX_MACHINES, MAX_SLOTS, MAX_MACHINE_ATTRIBUTES}
-use Rattle.pool_settings.specs.declared.value.TheConstants.{MAX_SECONDS, MAX_CEILING, MAX_FACTOR, MAX_AMOUNT, MAX_MACHINE_NAME}
-use Rattle.pool_settings.specs.declared.error.ConfigError.{ConfigError}
-use Rattle.pool_settings.specs.declared.error.ConfigError.TheVariants as error
-use Rattle.pool_settings.specs.declared.word.Interval.{Interval}
-use Rattle.pool_settings.specs.declared.word.Interval.TheVariants as interval
-use Rattle.pool_settings.specs.declared.word.PoolWord.{PoolWord}
-use Rattle.pool_settings.specs.declared.word.PoolWord.TheVariants as pool
-use Rattle.pool_settings.specs.declared.word.SlotWord.{SlotWord}
-use Rattle.pool_settings.specs.declared.word.SlotWord.TheVariants as slot
-use Rattle.pool_settings.specs.Configuration.{Configuration, ConfiguredMachine, plain_machine, total_slots}
-use Rattle.pool_settings.specs.Keys.{Sets, of_pool, ceiling, prio_factor, of_slots, attribute, least_seconds, is_of_machine}
+use Rattle.pool_config.specs.declared.config.TheConstants.{MAX_MACHINES, MAX_SLOTS, MAX_MACHINE_ATTRIBUTES}
+use Rattle.pool_config.specs.declared.value.TheConstants.{MAX_SECONDS, MAX_CEILING, MAX_FACTOR, MAX_AMOUNT, MAX_MACHINE_NAME}
+use Rattle.pool_config.specs.declared.error.ConfigError.{ConfigError}
+use Rattle.pool_config.specs.declared.error.ConfigError.TheVariants as error
+use Rattle.pool_config.specs.declared.setting_word.Interval.{Interval}
+use Rattle.pool_config.specs.declared.setting_word.Interval.TheVariants as interval
+use Rattle.pool_config.specs.declared.setting_word.PoolWord.{PoolWord}
+use Rattle.pool_config.specs.declared.setting_word.PoolWord.TheVariants as pool
+use Rattle.pool_config.specs.declared.setting_word.SlotWord.{SlotWord}
+use Rattle.pool_config.specs.declared.setting_word.SlotWord.TheVariants as slot
+use Rattle.pool_config.specs.Configuration.{Configuration, ConfiguredMachine, plain_machine, total_slots}
+use Rattle.pool_config.specs.Keys.{Sets, of_pool, ceiling, prio_factor, of_slots, attribute, least_seconds, is_of_machine}
 
 -- ---- values
 

@@ -4,10 +4,10 @@ use Rattle.ad_value.specs.Content.{truth, integer}
 use Rattle.ad_value.specs.declared.user_number.UserNumber.{UserNumber}
 use Rattle.ad_tree.specs.Ad.{Attributes}
 use Rattle.ad_tree.specs.Tree.{Tree, tree, literal}
-use Rattle.pool_settings.specs.declared.config.Config.{Config}
-use Rattle.pool_settings.specs.declared.config.Machine.{Machine}
-use Rattle.pool_settings.specs.declared.config.TheConstants.{MAX_MACHINES, MAX_SLOTS, MAX_MACHINE_ATTRIBUTES}
-use Rattle.pool_settings.specs.declared.error.ConfigError.{ConfigError}
+use Rattle.pool_config.specs.declared.config.Config.{Config}
+use Rattle.pool_config.specs.declared.config.Machine.{Machine}
+use Rattle.pool_config.specs.declared.config.TheConstants.{MAX_MACHINES, MAX_SLOTS, MAX_MACHINE_ATTRIBUTES}
+use Rattle.pool_config.specs.declared.error.ConfigError.{ConfigError}
 
 -- a machine, and what each of its slots has
 pub record ConfiguredMachine : Type 0 where

@@ -1,9 +1,9 @@
 // What can be set.
 
 ghost use Rattle.std.specs.Prelude.{◌≡◌};
-ghost use Rattle.pool_settings.specs.Keys.{sets_of, is_of_machine};
+ghost use Rattle.pool_config.specs.Keys.{sets_of, is_of_machine};
 
-use crate::word::{PoolWord, SlotWord};
+use crate::setting_word::{PoolWord, SlotWord};
 
 /// What can be set.
 #[derive(Clone, Copy, Debug)]

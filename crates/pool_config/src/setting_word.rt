@@ -1,7 +1,7 @@
 // The words that set something.
 
 ghost use Rattle.std.specs.Prelude.{◌≡◌};
-ghost use Rattle.pool_settings.specs.Keys.{least_seconds};
+ghost use Rattle.pool_config.specs.Keys.{least_seconds};
 
 /// A time that a configuration sets, in seconds.
 #[derive(Clone, Copy, Debug, PartialEq, Eq)]

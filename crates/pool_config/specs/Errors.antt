@@ -1,7 +1,7 @@
 -- What a function gives that may run out of memory.
 use Rattle.std.specs.Prelude.{◌≡◌, Result, Ok, Err}
-use Rattle.pool_settings.specs.declared.error.ConfigError.{ConfigError}
-use Rattle.pool_settings.specs.declared.error.ConfigError.TheVariants as error
+use Rattle.pool_config.specs.declared.error.ConfigError.{ConfigError}
+use Rattle.pool_config.specs.declared.error.ConfigError.TheVariants as error
 
 -- it holds of the result, unless memory runs out
 abbrev pub UnlessMemory : {X : Type 0}

@@ -3,11 +3,11 @@
 ghost use Rattle.std.specs.Prelude.{◌≡◌, ◌+◌, IfOk, OnOk, Ok, None, is_some, length, map, nat_le, nat_lt};
 ghost use Rattle.std.specs.List.{list_any};
 ghost use Rattle.std.specs.Str.{bytes_eq};
-ghost use Rattle.pool_settings.specs.Configuration.{configuration_of, outcome, machine_of, plain_configuration, total_slots};
-ghost use Rattle.pool_settings.specs.Errors.{Becomes, UnlessMemory};
-ghost use Rattle.pool_settings.specs.Keys.{sets_of, ceiling, prio_factor, of_slots, attribute};
-ghost use Rattle.pool_settings.specs.Settings.{set_to, pool_with, spool_with, machine_check, is_unfit, has_machine, whole, with_seconds, is_homeless};
-ghost use Rattle.pool_settings.specs.SoFar.{so_far};
+ghost use Rattle.pool_config.specs.Configuration.{configuration_of, outcome, machine_of, plain_configuration, total_slots};
+ghost use Rattle.pool_config.specs.Errors.{Becomes, UnlessMemory};
+ghost use Rattle.pool_config.specs.Keys.{sets_of, ceiling, prio_factor, of_slots, attribute};
+ghost use Rattle.pool_config.specs.Settings.{set_to, pool_with, spool_with, machine_check, is_unfit, has_machine, whole, with_seconds, is_homeless};
+ghost use Rattle.pool_config.specs.SoFar.{so_far};
 
 use crate::config::{Config, MAX_MACHINES, MAX_SLOTS, Machine};
 use crate::error::ConfigError;
@@ -17,7 +17,7 @@ use crate::value::{
     MAX_CEILING, MAX_FACTOR, MAX_SECONDS, expression_in, is_machine_name, number_within,
     small_within,
 };
-use crate::word::{Interval, PoolWord, SlotWord};
+use crate::setting_word::{Interval, PoolWord, SlotWord};
 use ad_token::is_name;
 use ad_value::{Memory, Text};
 use std::alloc::Global;

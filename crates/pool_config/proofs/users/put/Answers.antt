@@ -1,9 +1,9 @@
 use Rattle.std.proofs.Common.{ap, sym, ◌∙◌, map, string_bytes}
 use Rattle.std.specs.List.{position}
 use Rattle.std.specs.Str.{bytes_eq}
-use Rattle.pool_settings.specs.Users.{users_of}
-use Rattle.pool_settings.proofs.UserLemmas.{users-insert_entry, users-set_value_at}
-use Rattle.pool_settings.proofs.users.put.Goals as goal
+use Rattle.pool_config.specs.Users.{users_of}
+use Rattle.pool_config.proofs.UserLemmas.{users-insert_entry, users-set_value_at}
+use Rattle.pool_config.proofs.users.put.Goals as goal
 
 pub returns : goal.returns
 returns c =

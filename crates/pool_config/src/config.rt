@@ -1,7 +1,7 @@
 // Configurations.
 
 ghost use Rattle.std.specs.Prelude.{◌≡◌, IfOk};
-ghost use Rattle.pool_settings.specs.Configuration.{configuration_of, machine_of, plain_configuration, plain_machine};
+ghost use Rattle.pool_config.specs.Configuration.{configuration_of, machine_of, plain_configuration, plain_machine};
 
 use ad_tree::{Ad, Expr};
 use ad_value::{Memory, Seq, Text, UserNumberList, Value};

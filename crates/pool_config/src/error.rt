@@ -39,7 +39,7 @@ pub enum ConfigError {
 
 impl From<Memory> for ConfigError {
     ghost use Rattle.std.specs.Prelude.{◌≡◌};
-    ghost use Rattle.pool_settings.specs.declared.error.ConfigError.TheVariants as error;
+    ghost use Rattle.pool_config.specs.declared.error.ConfigError.TheVariants as error;
 
     ghost from_gives = { λ _ e. e ≡ error.Memory };
 
@@ -50,7 +50,7 @@ impl From<Memory> for ConfigError {
 
 impl From<AllocError> for ConfigError {
     ghost use Rattle.std.specs.Prelude.{◌≡◌};
-    ghost use Rattle.pool_settings.specs.declared.error.ConfigError.TheVariants as error;
+    ghost use Rattle.pool_config.specs.declared.error.ConfigError.TheVariants as error;
 
     ghost from_gives = { λ _ e. e ≡ error.Memory };
 
@@ -61,7 +61,7 @@ impl From<AllocError> for ConfigError {
 
 impl<T: Drop> From<AllocFailed<T>> for ConfigError {
     ghost use Rattle.std.specs.Prelude.{◌≡◌};
-    ghost use Rattle.pool_settings.specs.declared.error.ConfigError.TheVariants as error;
+    ghost use Rattle.pool_config.specs.declared.error.ConfigError.TheVariants as error;
 
     ghost from_gives = { λ _ e. e ≡ error.Memory };
 

@@ -5,7 +5,7 @@ use Rattle.ad_parse.specs.declared.error.ParseError.{ParseError}
 use Rattle.ad_parse.specs.declared.error.ParseError.TheVariants as parse
 use Rattle.ad_parse.specs.ExprText.{IsExprText, IsRefused}
 use Rattle.ad_parse.proofs.Texts.{said_is_read, cause_is_read}
-use Rattle.pool_settings.specs.Settings.{expression_in, if_said, is_memory}
+use Rattle.pool_config.specs.Settings.{expression_in, if_said, is_memory}
 
 pub said_some : (text : List ℕ) (e : Tree) → IsExprText text e → Some e ≡ expression_in text
 said_some text e is = sym (ap if_said (said_is_read text e is))

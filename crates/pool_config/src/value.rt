@@ -5,7 +5,7 @@ ghost use Rattle.std.specs.List.{list_all};
 ghost use Rattle.std.specs.Option.{option_map};
 ghost use Rattle.ad_token.specs.Names.{is_name_byte};
 ghost use Rattle.ad_tree.specs.Tree.{tree};
-ghost use Rattle.pool_settings.specs.Settings.{number_within, in_bounds, expression_in, is_memory, is_machine_byte, is_machine_name};
+ghost use Rattle.pool_config.specs.Settings.{number_within, in_bounds, expression_in, is_memory, is_machine_byte, is_machine_name};
 
 use ad_parse::{ParseError, parse_expr};
 use ad_tree::Expr;

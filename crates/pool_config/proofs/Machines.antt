@@ -3,9 +3,9 @@ use Rattle.std.proofs.Common.{◌≡◌, ℕ, suc, List, [], ◌∷◌, length, 
 use Rattle.std.specs.Prelude.{◌||◌}
 use Rattle.std.specs.List.{list_any}
 use Rattle.std.specs.Str.{bytes_eq}
-use Rattle.pool_settings.specs.declared.config.Machine.{Machine}
-use Rattle.pool_settings.specs.Configuration.{machine_of}
-use Rattle.pool_settings.specs.Settings.{has_machine}
+use Rattle.pool_config.specs.declared.config.Machine.{Machine}
+use Rattle.pool_config.specs.Configuration.{machine_of}
+use Rattle.pool_config.specs.Settings.{has_machine}
 
 pub any_machine : (x : List ℕ) (ms : List Machine) → list_any (λ m. bytes_eq x m.name) ms ≡ has_machine x (map machine_of ms)
 any_machine x [] = refl

@@ -1,8 +1,8 @@
 // Users and their numbers, found by their names.
 
 ghost use Rattle.std.specs.Prelude.{◌≡◌, [], IfOk, OnOk, OnErr, string_bytes};
-ghost use Rattle.pool_settings.specs.Settings.{with_user};
-ghost use Rattle.pool_settings.specs.Users.{users_of};
+ghost use Rattle.pool_config.specs.Settings.{with_user};
+ghost use Rattle.pool_config.specs.Users.{users_of};
 
 use ad_value::{Memory, Text, UserNumber, UserNumberList};
 use indexmap::IndexMap;
@@ -24,7 +24,7 @@ impl Drop for Users {
 impl Model for Users {
     ghost use Rattle.std.specs.Prelude.{List};
     ghost use Rattle.ad_value.specs.declared.user_number.UserNumber.{UserNumber};
-    ghost use Rattle.pool_settings.specs.Users.{users_of};
+    ghost use Rattle.pool_config.specs.Users.{users_of};
 
     ghost Value = { List UserNumber };
 

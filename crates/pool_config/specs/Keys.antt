@@ -1,11 +1,11 @@
 -- What can be set.
 use Rattle.std.specs.Prelude.{ℕ, Bool, true, false, List}
-use Rattle.pool_settings.specs.declared.key.Key.{Key}
-use Rattle.pool_settings.specs.declared.key.Key.TheVariants as key
-use Rattle.pool_settings.specs.declared.word.Interval.{Interval}
-use Rattle.pool_settings.specs.declared.word.Interval.TheVariants as interval
-use Rattle.pool_settings.specs.declared.word.PoolWord.{PoolWord}
-use Rattle.pool_settings.specs.declared.word.SlotWord.{SlotWord}
+use Rattle.pool_config.specs.declared.key.Key.{Key}
+use Rattle.pool_config.specs.declared.key.Key.TheVariants as key
+use Rattle.pool_config.specs.declared.setting_word.Interval.{Interval}
+use Rattle.pool_config.specs.declared.setting_word.Interval.TheVariants as interval
+use Rattle.pool_config.specs.declared.setting_word.PoolWord.{PoolWord}
+use Rattle.pool_config.specs.declared.setting_word.SlotWord.{SlotWord}
 
 -- how short a time may be
 abbrev pub least_seconds : Interval → ℕ

@@ -1,6 +1,0 @@
-pub mod Keys
-pub mod Configuration
-pub mod Errors
-pub mod Users
-pub mod Settings
-pub mod SoFar
