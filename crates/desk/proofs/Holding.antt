@@ -7,7 +7,7 @@ use Rattle.pool_core.specs.KeptPools.{IsKeptPool}
 use Rattle.pool_outer.specs.declared.gate.Daemon.{Daemon}
 use Rattle.pool_outer.specs.declared.gate.Daemon.TheVariants.{Schedd, Startd, Matchmaker}
 use Rattle.desk.specs.Standing.{HasRoll, RunsStand, Stands, numbered}
-use Rattle.pool_safety.proofs.PoolOpening.{so_many, startd_rests, startds_counted}
+use Rattle.pool_rules.proofs.PoolOpening.{so_many, startd_rests, startds_counted}
 use Rattle.pool_state.specs.Openings.{CanOpen, IsOpenedBy, opening_startds}
 use Rattle.pool_state.specs.declared.opening.Opening.{Opening}
 use Rattle.pool_state.specs.declared.state.PoolState.{PoolState}

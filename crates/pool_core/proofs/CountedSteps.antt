@@ -7,8 +7,8 @@ use Rattle.pool_parts.specs.declared.event.Event.{Event}
 use Rattle.pool_parts.specs.declared.size.TheConstants.{MAX_BYTES}
 use Rattle.pool_rules.specs.Happens.{Reacts}
 use Rattle.pool_rules.specs.Limits.{IsWithin}
-use Rattle.pool_safety.specs.Counted.{CountsBytes}
-use Rattle.pool_safety.proofs.Counting.{event_counts}
+use Rattle.pool_rules.specs.Counted.{CountsBytes}
+use Rattle.pool_rules.proofs.Counting.{event_counts}
 use Rattle.pool_rules.proofs.Readers.{some_reads}
 use Rattle.pool_state.specs.Openings.{CanOpen, IsOpenedBy}
 use Rattle.pool_state.specs.declared.opening.Opening.{Opening}

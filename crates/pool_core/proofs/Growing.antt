@@ -3,8 +3,8 @@ use Rattle.std.proofs.Common.{◌≡◌, refl, sym, ◌∙◌, ap, subst, List, 
 use Rattle.std.proofs.lemmas.List.{map-append}
 use Rattle.pool_parts.specs.declared.answer.Stepped.{Stepped}
 use Rattle.pool_parts.specs.declared.event.Event.{Event}
-use Rattle.pool_safety.specs.Histories as accepted
-use Rattle.pool_safety.specs.Histories.{Accepts, IsHistory, LeadsTo}
+use Rattle.pool_rules.specs.Histories as accepted
+use Rattle.pool_rules.specs.Histories.{Accepts, IsHistory, LeadsTo}
 use Rattle.pool_state.specs.declared.opening.Opening.{Opening}
 use Rattle.pool_state.specs.declared.state.PoolState.{PoolState}
 use Rattle.pool_state.specs.Openings.{CanOpen, IsOpenedBy}

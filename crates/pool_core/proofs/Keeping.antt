@@ -8,7 +8,7 @@ use Rattle.pool_core.specs.KeptPools.{IsKeptPool}
 use Rattle.pool_core.specs.ShortPlans.{HasShortPlan, IsShortPlan}
 use Rattle.pool_parts.specs.declared.answer.Stepped.{Stepped}
 use Rattle.pool_parts.specs.declared.event.Event.{Event}
-use Rattle.pool_safety.proofs.Viewing.{linked_shows, shown_safe}
+use Rattle.pool_rules.proofs.Viewing.{linked_shows, shown_safe}
 use Rattle.pool_rules.specs.Given.{IsGiven}
 use Rattle.pool_rules.specs.Happens.{Reacts}
 use Rattle.pool_parts.specs.declared.pending.Pending.{Pending}
@@ -17,23 +17,23 @@ use Rattle.pool_parts.specs.declared.pending.Unfinished.TheVariants.{Submission,
 use Rattle.pool_view.specs.ProtocolMove.{protocol_after_all}
 use Rattle.pool_rules.specs.Limits.{IsWithin}
 use Rattle.pool_core.proofs.CountedSteps.{opening_within}
-use Rattle.pool_safety.proofs.Counting.{event_counted, opening_counted}
-use Rattle.pool_safety.proofs.FewJobs.{event_few_jobs, opening_few_jobs}
-use Rattle.pool_safety.proofs.HistoryKept.{accepted_steps}
-use Rattle.pool_safety.proofs.HistoryLaunches.{accepted_launches}
-use Rattle.pool_safety.proofs.LogAnswers.{event_finishes}
-use Rattle.pool_safety.proofs.LogAppends.{answers_can_be_logged}
-use Rattle.pool_safety.proofs.LogEvents.{event_loggable}
-use Rattle.pool_safety.proofs.PoolEvents.{event_keeps}
-use Rattle.pool_safety.proofs.PoolOpening.{opening_is_kept}
-use Rattle.pool_safety.proofs.PoolViews.{view_shows}
+use Rattle.pool_rules.proofs.Counting.{event_counted, opening_counted}
+use Rattle.pool_rules.proofs.FewJobs.{event_few_jobs, opening_few_jobs}
+use Rattle.pool_rules.proofs.HistoryKept.{accepted_steps}
+use Rattle.pool_rules.proofs.HistoryLaunches.{accepted_launches}
+use Rattle.pool_rules.proofs.LogAnswers.{event_finishes}
+use Rattle.pool_rules.proofs.LogAppends.{answers_can_be_logged}
+use Rattle.pool_rules.proofs.LogEvents.{event_loggable}
+use Rattle.pool_rules.proofs.PoolEvents.{event_keeps}
+use Rattle.pool_rules.proofs.PoolOpening.{opening_is_kept}
+use Rattle.pool_rules.proofs.PoolViews.{view_shows}
 use Rattle.pool_rules.proofs.Readers.{some_reads}
-use Rattle.pool_safety.proofs.ScheddFew.{event_few, opening_few}
-use Rattle.pool_safety.specs.Histories.{Accepts, HasView, LaunchesRun, MovesView}
-use Rattle.pool_safety.specs.Kept.{GoesOn, IsPendingTx, IsTxOf}
-use Rattle.pool_safety.specs.Parts.{parts_of}
-use Rattle.pool_safety.specs.Steps.{IsStepOf}
-use Rattle.pool_safety.specs.Unfinished.{IsShort}
+use Rattle.pool_rules.proofs.ScheddFew.{event_few, opening_few}
+use Rattle.pool_rules.specs.Histories.{Accepts, HasView, LaunchesRun, MovesView}
+use Rattle.pool_rules.specs.Kept.{GoesOn, IsPendingTx, IsTxOf}
+use Rattle.pool_rules.specs.Parts.{parts_of}
+use Rattle.pool_rules.specs.Steps.{IsStepOf}
+use Rattle.pool_rules.specs.Unfinished.{IsShort}
 use Rattle.pool_rules.specs.Refusals.{IsRefusal}
 use Rattle.pool_state.specs.Openings.{CanOpen, IsOpenedBy}
 use Rattle.pool_state.specs.PoolViews.{IsViewOf}

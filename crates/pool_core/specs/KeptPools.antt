@@ -2,10 +2,10 @@
 use Rattle.pool_parts.specs.Loggable.{IsLoggableQueue}
 use Rattle.pool_view.specs.Protocol.{Protocol}
 use Rattle.pool_rules.specs.Limits.{IsWithin}
-use Rattle.pool_safety.specs.Counted.{HasFewJobs, IsCounted}
-use Rattle.pool_safety.specs.Few.{AreFew}
-use Rattle.pool_safety.specs.Kept.{IsKept}
-use Rattle.pool_safety.specs.Unfinished.{CanFinish}
+use Rattle.pool_rules.specs.Counted.{HasFewJobs, IsCounted}
+use Rattle.pool_rules.specs.Few.{AreFew}
+use Rattle.pool_rules.specs.Kept.{IsKept}
+use Rattle.pool_rules.specs.Unfinished.{CanFinish}
 use Rattle.pool_state.specs.declared.state.PoolState.{PoolState}
 
 -- It is kept to a protocol of its daemons, few clusters are used, its jobs and ads are counted, it

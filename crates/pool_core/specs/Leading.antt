@@ -2,8 +2,8 @@
 use Rattle.std.specs.Prelude.{◌≡◌, List, Some, map}
 use Rattle.pool_core.specs.declared.history.History.{History}
 use Rattle.pool_core.specs.declared.history.Step.{Step}
-use Rattle.pool_safety.specs.Histories as accepted
-use Rattle.pool_safety.specs.Histories.{LeadsTo}
+use Rattle.pool_rules.specs.Histories as accepted
+use Rattle.pool_rules.specs.Histories.{LeadsTo}
 use Rattle.pool_state.specs.declared.state.PoolState.{PoolState}
 
 -- an accepted event with its answer, as a history keeps it

@@ -5,7 +5,7 @@ ghost use Rattle.pool_core.specs.declared.history.History.{History};
 ghost use Rattle.pool_core.specs.Leading.{LeadsFromOpening, kept_step};
 ghost use Rattle.pool_parts.specs.declared.answer.Stepped.{Stepped};
 ghost use Rattle.pool_parts.specs.declared.event.Event.{Event};
-ghost use Rattle.pool_safety.specs.Histories.{Accepts, IsHistory, Step};
+ghost use Rattle.pool_rules.specs.Histories.{Accepts, IsHistory, Step};
 ghost use Rattle.pool_state.specs.declared.opening.Opening.{Opening};
 ghost use Rattle.pool_state.specs.declared.state.PoolState.{PoolState};
 ghost use Rattle.pool_state.specs.Openings.{CanOpen, IsOpenedBy};

@@ -2,9 +2,9 @@ use Rattle.std.proofs.Common.{OnOk, IfOk, sym, subst}
 use Rattle.pool_parts.specs.Appends.{CanAppend}
 use Rattle.pool_rules.specs.Deeds.{at_rest}
 use Rattle.pool_rules.specs.Given.{IsGiven}
-use Rattle.pool_safety.specs.Histories.{MovesView}
+use Rattle.pool_rules.specs.Histories.{MovesView}
 use Rattle.pool_state.specs.declared.state.PoolState.{PoolState}
-use Rattle.pool_safety.specs.Counted.{CountsBytes}
+use Rattle.pool_rules.specs.Counted.{CountsBytes}
 use Rattle.pool_core.proofs.CountedSteps.{step_counts}
 use Rattle.pool_core.proofs.Keeping.{step_appends, step_kept, step_launches, step_moves}
 use Rattle.pool_core.proofs.pool.Pool.step.Goals as goal

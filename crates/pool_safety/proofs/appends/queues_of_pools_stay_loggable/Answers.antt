@@ -1,5 +1,0 @@
-use Rattle.pool_safety.proofs.LogEvents.{event_loggable}
-use Rattle.pool_safety.proofs.appends.queues_of_pools_stay_loggable.Goals as goal
-
-pub returns : goal.returns
-returns c = event_loggable

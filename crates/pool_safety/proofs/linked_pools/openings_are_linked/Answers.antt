@@ -1,5 +1,0 @@
-use Rattle.pool_safety.proofs.Opening.{opening_linked, opening_protocol}
-use Rattle.pool_safety.proofs.linked_pools.openings_are_linked.Goals as goal
-
-pub returns : goal.returns
-returns c = λ a opening. (opening_protocol a, opening_linked a opening)

@@ -1,5 +1,0 @@
-use Rattle.pool_safety.proofs.Wanting.{wanted_linked}
-use Rattle.pool_safety.proofs.linked_pools.sent_mails_keep_links.Goals as goal
-
-pub returns : goal.returns
-returns c = wanted_linked

@@ -1,5 +1,0 @@
-use Rattle.pool_safety.proofs.Reviewing.{view_linked}
-use Rattle.pool_safety.proofs.linked_pools.shown_pools_are_linked.Goals as goal
-
-pub returns : goal.returns
-returns c = view_linked

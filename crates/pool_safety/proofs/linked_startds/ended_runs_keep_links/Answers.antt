@@ -1,5 +1,0 @@
-use Rattle.pool_safety.proofs.StartdEnds.{end_linked}
-use Rattle.pool_safety.proofs.linked_startds.ended_runs_keep_links.Goals as goal
-
-pub returns : goal.returns
-returns c = end_linked

@@ -1,5 +1,0 @@
-use Rattle.pool_safety.proofs.Launching.{permits_matched}
-use Rattle.pool_safety.proofs.linked_startds.launches_are_matched.Goals as goal
-
-pub returns : goal.returns
-returns c = permits_matched

@@ -1,5 +1,0 @@
-use Rattle.pool_safety.proofs.ScheddKept.{time_linked}
-use Rattle.pool_safety.proofs.linked_startds.readings_keep_links.Goals as goal
-
-pub returns : goal.returns
-returns c = time_linked

@@ -1,5 +1,0 @@
-use Rattle.pool_safety.proofs.StartdMails.{mail_linked}
-use Rattle.pool_safety.proofs.linked_startds.received_mails_keep_links.Goals as goal
-
-pub returns : goal.returns
-returns c = mail_linked

@@ -1,5 +1,0 @@
-use Rattle.pool_safety.proofs.PoolOpening.{opening_is_kept}
-use Rattle.pool_safety.proofs.pools.openings_are_kept.Goals as goal
-
-pub returns : goal.returns
-returns c = opening_is_kept

@@ -1,5 +1,0 @@
-use Rattle.pool_safety.proofs.PoolViews.{view_shows}
-use Rattle.pool_safety.proofs.pools.views_show_pools.Goals as goal
-
-pub returns : goal.returns
-returns c = view_shows

@@ -1,5 +1,0 @@
-use Rattle.pool_safety.proofs.ScheddLogged.{logged_keeps}
-use Rattle.pool_safety.proofs.schedd.logged_transactions_keep_pools.Goals as goal
-
-pub returns : goal.returns
-returns c = logged_keeps

@@ -1,5 +1,0 @@
-use Rattle.pool_safety.proofs.ScheddEvents.{mail_keeps}
-use Rattle.pool_safety.proofs.schedd.received_mails_keep_pools.Goals as goal
-
-pub returns : goal.returns
-returns c = mail_keeps

@@ -1,8 +1,0 @@
-use Rattle.pool_safety.proofs.ScheddEvents.{look_keeps, tick_keeps}
-use Rattle.pool_safety.proofs.schedd.ticks_and_looks_keep_pools.Goals as goal
-
-pub returns-clause-ticks : goal.returns-clause-ticks
-returns-clause-ticks c = tick_keeps
-
-pub returns-clause-looks : goal.returns-clause-looks
-returns-clause-looks c = look_keeps

@@ -1,5 +1,0 @@
-use Rattle.pool_safety.proofs.StartdLaunching.{launched_is_matched}
-use Rattle.pool_safety.proofs.startds.launches_are_matched.Goals as goal
-
-pub returns : goal.returns
-returns c = launched_is_matched
