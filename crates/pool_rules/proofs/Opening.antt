@@ -14,7 +14,7 @@ use Rattle.pool_view.specs.declared.job.State.TheVariants as state
 use Rattle.pool_view.specs.Facts.{IsOpening, IsUnstarted}
 use Rattle.pool_view.specs.Protocol.{Protocol}
 use Rattle.pool_view.specs.SlotPart.{SlotPart, AreDistinct, HasParts, ShowsParts, part_at}
-use Rattle.pool_view.proofs.Same.{opening_facts, opening_safe}
+use Rattle.pool_view.proofs.SameProtocol.{opening_facts, opening_safe}
 use Rattle.pool_view.proofs.Whole.{part_found, parts_of_shown}
 use Rattle.queue_tx.specs.declared.key.Key.TheVariants.{Proc}
 use Rattle.queue_tx.specs.declared.kind.JobKind.{JobKind}

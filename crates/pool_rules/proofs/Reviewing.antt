@@ -4,7 +4,7 @@ use Rattle.pool_view.specs.AbstractPool.{AbstractPool, SameView}
 use Rattle.pool_view.specs.declared.mark.SlotMark.{SlotMark}
 use Rattle.pool_view.specs.Protocol.{Protocol}
 use Rattle.pool_view.specs.SlotPart.{HasParts, SlotPart}
-use Rattle.pool_view.proofs.Same.{same_facts}
+use Rattle.pool_view.proofs.SameProtocol.{same_facts}
 use Rattle.pool_rules.specs.Linked.{IsLinked, ended_of}
 use Rattle.pool_rules.specs.PoolParts.{PoolParts, pool_parts}
 use Rattle.pool_rules.specs.Shown.{ShowsPool}

@@ -13,7 +13,7 @@ use Rattle.pool_view.specs.declared.job.State.TheVariants as state
 use Rattle.pool_view.specs.Protocol.{Protocol}
 use Rattle.pool_view.specs.ProtocolMove.{ProtocolMove, SameProtocol, all_steps, protocol_after_all}
 use Rattle.pool_view.specs.SlotPart.{HasParts}
-use Rattle.pool_view.proofs.Same.{moves_good}
+use Rattle.pool_view.proofs.SameProtocol.{moves_good}
 use Rattle.pool_view.proofs.Whole.{shown}
 use Rattle.queue_tx.specs.declared.key.Key.TheVariants.{Proc}
 use Rattle.queue_tx.specs.declared.kind.JobKind.{JobKind}

@@ -13,7 +13,7 @@ use Rattle.pool_view.proofs.Steps.{step_dead}
 use Rattle.pool_view.proofs.Pending.{reports_more, ordered_all}
 use Rattle.pool_view.proofs.Tracked.{AllBacked}
 use Rattle.pool_view.proofs.Moves.{move_backed, move_good}
-use Rattle.pool_view.proofs.Same.{pool_after_move}
+use Rattle.pool_view.proofs.SameProtocol.{pool_after_move}
 
 reports_all : (v : AbstractPool) (ks : List AbstractStep) (s : EndReport) → IsIn s v.reports → IsIn s (view_after_all v ks).reports
 reports_all v [] s there = there

@@ -9,7 +9,7 @@ pub mod Moves
 pub mod Parts
 pub mod Pending
 pub mod SafeParts
-pub mod Same
+pub mod SameProtocol
 pub mod Sameness
 pub mod SeveralMoves
 pub mod Sources

@@ -1,4 +1,4 @@
-use Rattle.pool_view.proofs.Same.{opening_facts, opening_safe}
+use Rattle.pool_view.proofs.SameProtocol.{opening_facts, opening_safe}
 use Rattle.pool_view.proofs.protocol_laws.openings_have_facts.Goals as goal
 
 pub returns : goal.returns

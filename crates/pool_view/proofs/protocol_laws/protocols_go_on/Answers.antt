@@ -1,4 +1,4 @@
-use Rattle.pool_view.proofs.Same.{moves_good}
+use Rattle.pool_view.proofs.SameProtocol.{moves_good}
 use Rattle.pool_view.proofs.protocol_laws.protocols_go_on.Goals as goal
 
 pub returns : goal.returns
