@@ -11,9 +11,9 @@ ghost use Rattle.pool_config.specs.LinesSoFar.{lines_so_far};
 
 use crate::line::setting_in;
 use crate::name::key_of;
+use crate::{Config, ConfigError, Key, Settings};
 use ad_value::Memory;
 use line_text::{Line, MacroError, MacroTable, expand, lines};
-use crate::{Config, ConfigError, Key, Settings};
 use std::alloc::Global;
 
 /// What was read so far: what lines have set, and the names that they have set as macros.

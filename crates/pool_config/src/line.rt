@@ -6,8 +6,8 @@ ghost use Rattle.std.specs.Option.{option_map};
 ghost use Rattle.ad_token.specs.Names.{is_name_byte};
 ghost use Rattle.pool_config.specs.Names.{cut_at, named, setting_in, is_setting_name, has_blank, head_of};
 
-use ad_token::{is_blank, trimmed_text};
 use crate::is_word_byte;
+use ad_token::{is_blank, trimmed_text};
 
 /// The name and the value of a line, without the blanks round them. None exactly where no `=` is
 /// there, or what is before the first of them is no name: a name has no blanks, and before its

@@ -8,9 +8,9 @@ ghost use Rattle.pool_config.specs.Settings.{machine_with, slots_with, cpus_with
 
 use crate::config::{MAX_MACHINE_ATTRIBUTES, Machine};
 use crate::error::ConfigError;
+use crate::setting_word::SlotWord;
 use crate::settings::are_above;
 use crate::value::{MAX_AMOUNT, expression_in, small_within};
-use crate::setting_word::SlotWord;
 use ad_tree::{Ad, SetError};
 use std::alloc::Global;
 use submit_lines::decimal;

@@ -7,6 +7,7 @@ ghost use Rattle.ad_value.specs.Names.{same_name};
 ghost use Rattle.pool_config.specs.Keys.{sets_of};
 ghost use Rattle.pool_config.specs.Names.{name_sets, word_sets, dotted_sets, attribute_sets, user_sets, slot_sets, is_taken, slot_attributes, job_attributes};
 
+use crate::Key;
 use crate::line::cut_at;
 use crate::word::{pool_word, slot_word};
 use ad_token::is_name;
@@ -20,7 +21,6 @@ use ad_value::names::matching::{RANK, REQUIREMENTS};
 use ad_value::names::slot::{
     ARCH, CPUS, DISK, MACHINE, MEMORY, MY_TYPE, NAME, OP_SYS, SLOT_ID, START,
 };
-use crate::Key;
 
 // What a slot's ad has from the pool.
 const SLOT_ATTRIBUTES: &[&str] = &[

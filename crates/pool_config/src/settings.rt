@@ -12,12 +12,12 @@ ghost use Rattle.pool_config.specs.SoFar.{so_far};
 use crate::config::{Config, MAX_MACHINES, MAX_SLOTS, Machine};
 use crate::error::ConfigError;
 use crate::key::Key;
+use crate::setting_word::{Interval, PoolWord, SlotWord};
 use crate::users::Users;
 use crate::value::{
     MAX_CEILING, MAX_FACTOR, MAX_SECONDS, expression_in, is_machine_name, number_within,
     small_within,
 };
-use crate::setting_word::{Interval, PoolWord, SlotWord};
 use ad_token::is_name;
 use ad_value::{Memory, Text};
 use std::alloc::Global;

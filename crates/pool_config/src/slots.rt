@@ -6,6 +6,7 @@ ghost use Rattle.ad_tree.specs.Tree.{tree};
 ghost use Rattle.pool_config.specs.Configuration.{configuration_of, machine_of, total_slots, HasRoom, IsWithinLimits};
 ghost use Rattle.pool_config.specs.Slots.{slot_name, slot_ad, pool_attributes, and_attribute, with_attributes, configured_slot, configured_slots, slots_from, slots_upto};
 
+use crate::{Config, MAX_MACHINES, MAX_SLOTS, Machine};
 use ad_rows::{Given, ad_of};
 use ad_tree::{Ad, Expr};
 use ad_value::names::matching::{RANK, REQUIREMENTS};
@@ -14,7 +15,6 @@ use ad_value::names::slot::{
 };
 use ad_value::{Copied, Memory, Seq, Text};
 use claim_id::SlotId;
-use crate::{Config, MAX_MACHINES, MAX_SLOTS, Machine};
 use std::alloc::Global;
 
 /// A slot of a configuration.
