@@ -1,10 +1,8 @@
 //! The rules of a pool: why it doesn't accept an event, and which matches are live; and, as
 //! definitions alone, what every event that it accepts makes of it.
 //!
-//! Every event that a pool accepts keeps it safe. There is nothing here but laws.
-//!
-//! What ties the parts of a pool to the protocol of its daemons, and that every event keeps it.
-//! There is nothing here but laws.
+//! And laws: what ties the parts of a pool to the protocol of its daemons, that every event keeps
+//! it, and so that every event that a pool accepts keeps it safe.
 #![tactic(auto)]
 
 pub mod appends;
