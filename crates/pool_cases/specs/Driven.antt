@@ -1,4 +1,4 @@
--- A pool that a script drives.
+-- A pool that cases drive.
 use Rattle.std.specs.Prelude.{◌≡◌, ℕ, ◌<◌, nat_lt, Bool, true, length, is_some}
 use Rattle.pool_cases.specs.Marks.{HasMarks, RollMarks}
 use Rattle.pool_outer.specs.declared.gate.Daemon.{Daemon}
@@ -12,7 +12,7 @@ is_of Schedd machines = true
 is_of (Startd machine) machines = nat_lt machine machines
 is_of Matchmaker machines = true
 
--- it knows the script's rolls, and there is one for each of its machines
+-- it knows the cases' rolls, and there is one for each of its machines
 pub record IsDriven (m : RollMarks) (s : PoolState) : Type 0 where
   pub marks : HasMarks m s
   pub startds : (machine : ℕ) → machine < length m.ends

@@ -24,7 +24,7 @@ const FIRST: u64 = 86_400;
 // How long each run lasts, so that its lease is renewed once.
 const RUN_SECONDS: u64 = 400;
 
-// How many events are between two runs, at most.
+// How many turns, and mails in a turn, at most.
 const MOST: u64 = 1_000_000;
 
 const DAEMONS: [Daemon; 4] = [

@@ -22,7 +22,7 @@ pub fn histories_grow()
 {}
 
 /// Where a history leads to a pool, its events with their answers are a history of the pool in the
-/// words of pool_safety, and what holds of those holds of it: the pool is safe, and events move it
+/// words of pool_rules, and what holds of those holds of it: the pool is safe, and events move it
 /// by abstract steps.
 pub fn histories_replay()
     ensures { (o : Opening) (h : History) (s : PoolState) → CanOpen o → IsOrdered o.queue

@@ -66,7 +66,7 @@ pub record IsActed (machine : ℕ) (w : StartdValue) (mails : List Mail) (ends :
   pub reports : t.reports ≡ s.reports ++ ends
   pub boots : AreInBoot t.daemons t.machines
 
--- the parts that the event has in the words of pool_links
+-- the parts that the event has as the links say them
 abbrev pub parts_acted : ℕ → ℕ → After → List EndReport → PoolState → PoolParts
 parts_acted machine reading a ends s = parts_with_startd machine a ends (parts_at_reading reading (parts_of s))
 
