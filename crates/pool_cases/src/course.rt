@@ -14,6 +14,7 @@ use claim_id::{ClaimId, JobId, Pair, RunNo};
 use pool_mail::{Mail, SlotAd};
 use pool_outer::Daemon;
 use pool_parts::{Answer, Event, Stepped};
+use pool_tables::StepError;
 use std::alloc::Global;
 use std::fmt::Write;
 use std::time::Instant;
@@ -321,6 +322,7 @@ impl Course {
                 open.note(rt.alloc(), &kept)?;
                 Ok(asked)
             }
+            Err(StepError::Memory) => Err(CaseError::Memory),
             Err(_) => Err(self.fault()),
         }
     }
