@@ -1,8 +1,7 @@
 -- A pool that a holder can have: it stands before the first event, and one that opens is such a pool.
-use Rattle.std.proofs.Common.{◌≡◌, ℕ, ◌*◌, ◌^◌, ◌≤◌, ◌<◌, true, false, List, [], length, Option, Some, None, IsSome, IsSomeAnd, is_some, slice_get, true≢false, refl, sym, ◌∙◌, ap, subst, arith}
+use Rattle.std.proofs.Common.{◌≡◌, ℕ, ◌*◌, ◌^◌, ◌≤◌, ◌<◌, List, [], length, Option, Some, None, IsSome, IsSomeAnd, slice_get, true≢false, refl, sym, ◌∙◌, ap, subst, arith}
 use Rattle.std.specs.Prelude.{option_map}
 use Rattle.std.proofs.lemmas.Option.{slice_get-get_or, slice_get_within}
-use Rattle.claim_id.specs.declared.numbers.RunNo.{RunNo}
 use Rattle.pool_core.specs.KeptPools.{IsKeptPool}
 use Rattle.pool_outer.specs.declared.gate.Daemon.{Daemon}
 use Rattle.pool_outer.specs.declared.gate.Daemon.TheVariants.{Schedd, Startd, Matchmaker}

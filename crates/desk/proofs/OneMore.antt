@@ -1,5 +1,5 @@
 -- One more entry: which transactions were logged then, and which runs were launched.
-use Rattle.std.proofs.Common.{◌≡◌, ℕ, ◌<◌, Bool, true, false, ◌||◌, List, [], ◌∷◌, ◌++◌, None, length, refl, sym, ◌∙◌, ap, arith, length-append}
+use Rattle.std.proofs.Common.{◌≡◌, ◌<◌, Bool, true, false, ◌||◌, List, [], ◌∷◌, ◌++◌, None, length, refl, ◌∙◌, ap, arith, length-append}
 use Rattle.claim_id.specs.declared.numbers.RunNo.{RunNo}
 use Rattle.desk.specs.declared.entry.Entry.{Entry}
 use Rattle.desk.specs.Entries.{Gained, entry_of}

@@ -1,6 +1,6 @@
 -- Which answers an event can have.
 use Rattle.pool_parts.specs.declared.answer.Answer.{Answer}
-use Rattle.pool_parts.specs.declared.answer.Answer.TheVariants.{Done, Append, Launch, Kill}
+use Rattle.pool_parts.specs.declared.answer.Answer.TheVariants.{Done, Append, Kill}
 use Rattle.pool_parts.specs.declared.event.Event.{Event}
 use Rattle.pool_parts.specs.declared.event.Event.TheVariants as event
 use Rattle.pool_outer.specs.declared.gate.Daemon.{Daemon}

@@ -1,8 +1,8 @@
 //! The abstract pool: what a pool promises of its jobs and runs, without messages, logs or pending
 //! work; its steps; and when it is safe. `View` is one as data.
 //!
-//! The protocol of a pool: what its daemons tell one another, and why that keeps the pool safe.
-//! There is nothing here but laws.
+//! The protocol of a pool: what its daemons tell one another, and, as laws alone, why that keeps
+//! the pool safe.
 #![tactic(auto)]
 
 mod job;
