@@ -1,5 +1,5 @@
 -- What is answered is to be logged can be, where what is unfinished then can.
-use Rattle.std.proofs.Common.{◌≡◌, ℕ, Bool, List, [], Option, Some, None, is_some, IsSomeAnd, slice_get, refl, sym, subst}
+use Rattle.std.proofs.Common.{◌≡◌, ℕ, Bool, List, [], Option, Some, None, is_some, IsSomeAnd, slice_get, sym, subst}
 use Rattle.std.specs.Prelude.{IfSome}
 use Rattle.ad_eval.specs.Judgement.{Judgement}
 use Rattle.pool_parts.specs.declared.answer.Stepped.{Stepped}
@@ -18,7 +18,7 @@ use Rattle.startd_core.specs.declared.answer.StartdStep.{StartdStep}
 use Rattle.startd_core.specs.Startds.{After, StartdValue, after_end, after_mail, after_reboot, after_tick}
 use Rattle.pool_rules.specs.Answers.{answer_of_startd, answer_with, answered}
 use Rattle.pool_rules.specs.Deeds.{startd_answer}
-use Rattle.pool_rules.specs.Happens.{ComesBack, Happens, IsDone, Reacts, Receives, Ticks, counts_brought, counts_event}
+use Rattle.pool_rules.specs.Happens.{ComesBack, Happens, IsDone, Reacts, Receives, Ticks, counts_brought}
 use Rattle.pool_rules.specs.Logging.{IsLogged}
 use Rattle.pool_rules.specs.Startds.{IsReceivedStep, IsStartdStep, ends_after}
 use Rattle.pool_parts.specs.Appends.{CanAppend}

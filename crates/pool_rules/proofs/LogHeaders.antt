@@ -1,5 +1,5 @@
 -- What a schedd plans knows whether there is a header.
-use Rattle.std.proofs.Common.{◌≡◌, ℕ, Bool, true, false, cond, not, ◌&&◌, is_none, is_some, List, Option, Some, None, slice_get, refl, sym, subst}
+use Rattle.std.proofs.Common.{ℕ, Bool, true, false, cond, not, ◌&&◌, is_none, is_some, Option, Some, None, slice_get, refl, sym, subst}
 use Rattle.std.specs.Prelude.{IfSome}
 use Rattle.ad_value.specs.declared.names.job.TheConstants.{PERIODIC_HOLD, PERIODIC_REMOVE, PERIODIC_RELEASE}
 use Rattle.ad_tree.specs.Ad.{Attributes}
@@ -27,7 +27,7 @@ use Rattle.schedd_plan.specs.EndTable.{ended_ad_plan, is_asked_by}
 use Rattle.schedd_plan.specs.JobPlaces.{job_place, let_go}
 use Rattle.schedd_plan.specs.KeptClaims.{engages, place_of_claim}
 use Rattle.schedd_plan.specs.KeptRuns.{place_of_run}
-use Rattle.schedd_plan.specs.MailTable.{denied_claim, denied_row, denied_run, fate_of_gone, granted_at, granted_row, is_idle_place, is_spent_why, order_row}
+use Rattle.schedd_plan.specs.MailTable.{denied_claim, denied_row, granted_at, granted_row, is_idle_place, is_spent_why, order_row}
 use Rattle.schedd_plan.specs.OrderTable.{can_be_held, hold_left, hold_plan, hold_under, is_waiting, remove_plan, resume_marked, resume_plan}
 use Rattle.schedd_plan.specs.declared.claims.KeptClaim.{KeptClaim}
 use Rattle.schedd_plan.specs.declared.claims.Stage.{Stage}
@@ -40,7 +40,7 @@ use Rattle.schedd_plan.specs.declared.runs.KeptRun.{KeptRun}
 use Rattle.schedd_plan.specs.declared.tick.TickLine.{TickLine}
 use Rattle.schedd_plan.specs.declared.tick.TickLine.TheVariants as line
 use Rattle.schedd_core.specs.Checks.{after_check, after_check_by, policy_plan, with_look}
-use Rattle.schedd_core.specs.Rows.{after_mail, after_row, asked_in, ended_at, ended_row, ended_with, gone_at, gone_row, known_job, mail_row, run_at, seen_at, stage_known}
+use Rattle.schedd_core.specs.Rows.{after_mail, after_row, asked_in, ended_at, ended_with, gone_at, mail_row, run_at, seen_at, stage_known}
 use Rattle.schedd_core.specs.Ticks.{IsTicked, after_grant, after_give_up, after_lengthen, after_line, after_past, granted_by, lengthened_by}
 use Rattle.schedd_core.proofs.FitsAfter.{Frees}
 use Rattle.schedd_core.proofs.Freed.{end_frees, let_go_frees}

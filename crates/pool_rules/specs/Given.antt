@@ -1,5 +1,5 @@
 -- What holds of an event that somebody gives to a pool.
-use Rattle.std.specs.Prelude.{◌≡◌, ℕ, ◌<◌, ◌^◌, List, [], ◌∷◌, length, slice_get, Option, Some, None, IfSome, All}
+use Rattle.std.specs.Prelude.{◌≡◌, ℕ, ◌<◌, ◌^◌, List, [], ◌∷◌, length, slice_get, Some, IfSome, All}
 use Rattle.ad_tree.specs.Ad.{AreDistinct, Attributes}
 use Rattle.claim_id.specs.declared.numbers.ClaimId.{ClaimId}
 use Rattle.pool_parts.specs.Loggable.{AreLoggableJobs}
@@ -8,12 +8,12 @@ use Rattle.pool_parts.specs.declared.event.Event.TheVariants as event
 use Rattle.pool_mail.specs.declared.end.Ending.{Ending}
 use Rattle.pool_mail.specs.declared.matching.Match.{Match}
 use Rattle.pool_outer.specs.declared.gate.Daemon.{Daemon}
-use Rattle.pool_outer.specs.declared.gate.Daemon.TheVariants.{Schedd, Startd, Matchmaker}
+use Rattle.pool_outer.specs.declared.gate.Daemon.TheVariants.{Startd}
 use Rattle.pool_state.specs.declared.state.PoolState.{PoolState}
 use Rattle.queue_tx.specs.declared.kind.JobKind.TheVariants.{Idle}
 use Rattle.queue_tx.specs.Kinds.{kind_of}
 use Rattle.queue_tx.specs.Operations.{Operation}
-use Rattle.receipt_roll.specs.Values.{ReceiptValue, RollMark}
+use Rattle.receipt_roll.specs.Values.{ReceiptValue}
 
 -- jobs that are submitted are idle, and the names of each ad differ
 abbrev pub AreIdle : List Attributes → Type 0
