@@ -5,6 +5,7 @@ pub mod Sounds
 pub mod TimeRows
 pub mod Telling
 pub mod Stays
+pub mod Taken
 pub mod SaidOver
 pub mod PermitRows
 pub mod Entering

@@ -4,6 +4,7 @@ pub mod Sound
 pub mod TickTable
 pub mod TimeMoves
 pub mod Startds
+pub mod Tellings
 pub mod DueTicks
 pub mod OverHere
 pub mod Permits

@@ -4,7 +4,7 @@ use Rattle.startd_core.specs.declared.prepared.PreparedStartd.{PreparedStartd}
 use Rattle.startd_core.specs.declared.prepared.SlotsChange.{SlotsChange}
 use Rattle.startd_core.specs.declared.prepared.SlotsChange.TheVariants as slots
 use Rattle.startd_core.specs.declared.prepared.StartdChange.{StartdChange}
-use Rattle.startd_core.specs.Startds.{StartdValue}
+use Rattle.startd_core.specs.Startds.{After, StartdValue}
 use Rattle.startd_slot.specs.declared.slot.Slot.{Slot}
 use Rattle.startd_slot.specs.declared.slot.SlotState.{SlotState}
 
@@ -28,3 +28,7 @@ change_after c v = record v {
 
 abbrev pub startd_after : PreparedStartd → StartdValue → StartdValue
 startd_after p v = change_after p.change v
+
+-- the startd then, and what is sent and done
+abbrev pub after_prepared : PreparedStartd → StartdValue → After
+after_prepared p v = record { startd = startd_after p v; step = p.step }

@@ -2,7 +2,8 @@
 
 ghost use Rattle.std.specs.Prelude.{◌≡◌, IfOk};
 ghost use Rattle.startd_core.specs.Offers.{Settled, settled, pair_place, same_pair, same_offer, has_changed, has_entered, is_brief};
-ghost use Rattle.startd_core.specs.Startds.{told, told_where_changed, made_by, answer_of};
+ghost use Rattle.startd_core.specs.Startds.{told_where_changed, made_by, answer_of};
+ghost use Rattle.startd_core.specs.Tellings.{told_state, told_mails};
 
 use crate::answer::{Permit, RunList, StartdAnswer};
 use crate::offers::{Machine, settle_offer, update_of};
@@ -14,11 +15,57 @@ use std::alloc::Global;
 
 /// How a slot stands after an event, how many claims its machine has offered then, and the mails
 /// that are sent.
-#[derive(Drop)]
 pub(crate) struct Conclusion {
     pub state: SlotState,
     pub offers: u64,
     pub mails: MailList,
+}
+
+impl Drop for Conclusion {
+    fn drop(self) {
+        let Conclusion {
+            state: _state,
+            offers: _,
+            mails: _mails,
+        } = self;
+    }
+}
+
+impl Conclusion {
+    pub(crate) fn into_parts(self) -> (SlotState, u64, MailList)
+        ensures { result ≡ (self.state, self.offers, self.mails) }
+    {
+        let Conclusion {
+            state,
+            offers,
+            mails,
+        } = self;
+        (state, offers, mails)
+    }
+
+    /// The slot becomes what the event made of it, with its offer and its Update.
+    fn settle(
+        &mut self,
+        alloc: Global,
+        machine: Machine,
+        slot: &Slot,
+        reading: u64,
+    ) -> Result<(), Memory>
+        ensures { IfOk result (λ _. self.new ≡ told_where_changed slot.now
+            (settled machine slot.now.id self.old.state self.old.offers) self.old.mails reading) }
+    {
+        self.offers = settle_offer(machine, slot.id, &mut self.state, self.offers)?;
+        let tells = has_changed(&slot.state, &self.state);
+        tell(
+            alloc,
+            slot,
+            &mut self.state,
+            &mut self.mails,
+            tells,
+            reading,
+        )?;
+        Ok(())
+    }
 }
 
 /// What a slot's reaction comes to, and what is to be done.
@@ -40,58 +87,36 @@ pub(crate) fn made_by(
     ensures { IfOk result (λ made. made ≡ made_by machine offers slot.now reaction reading) }
 {
     let Reaction { state, mails, task } = reaction;
-    let conclusion = conclude(alloc, machine, slot, offers, state, mails, reading)?;
+    let mut conclusion = Conclusion {
+        state,
+        offers,
+        mails,
+    };
+    conclusion.settle(alloc, machine, slot, reading)?;
     let answer = answer_of(alloc, task)?;
     Ok(Made { conclusion, answer })
-}
-
-/// The slot becomes what the event made of it, with its offer and its Update.
-pub(crate) fn conclude(
-    alloc: Global,
-    machine: Machine,
-    slot: &Slot,
-    offers: u64,
-    state: SlotState,
-    mails: MailList,
-    reading: u64,
-) -> Result<Conclusion, Memory>
-    ensures { IfOk result (λ done. done ≡ told_where_changed slot.now
-        (settled machine slot.now.id state offers) mails reading) }
-{
-    let mut state = state;
-    let offers = settle_offer(machine, slot.id, &mut state, offers)?;
-    let tells = has_changed(&slot.state, &state);
-    tell(
-        alloc,
-        slot,
-        Conclusion {
-            state,
-            offers,
-            mails,
-        },
-        tells,
-        reading,
-    )
 }
 
 /// With an Update of the slot, where it tells how it stands.
 pub(crate) fn tell(
     alloc: Global,
     slot: &Slot,
-    done: Conclusion,
+    state: &mut SlotState,
+    mails: &mut MailList,
     tells: bool,
     reading: u64,
-) -> Result<Conclusion, Memory>
-    ensures { IfOk result (λ after. after ≡ told slot.now
-        (record { state = done.state; offers = done.offers }) done.mails tells reading) }
+) -> Result<(), Memory>
+    ensures state { IfOk result (λ _. state.new ≡ told_state tells reading state.old) }
+    ensures mails { IfOk result (λ _. mails.new
+        ≡ told_mails tells slot.now state.old reading mails.old) }
 {
-    let mut done = done;
-    if tells {
-        done.state.told = Some(reading);
-        let update = update_of(alloc, slot, &done.state, reading)?;
-        done.mails.push(update)?;
+    if !tells {
+        return Ok(());
     }
-    Ok(done)
+    state.told = Some(reading);
+    let update = update_of(alloc, slot, state, reading)?;
+    mails.push(update)?;
+    Ok(())
 }
 
 fn pair_place(pair: Pair) -> u8

@@ -4,6 +4,7 @@ ghost use Rattle.std.specs.Prelude.{◌≡◌, IfOk, OnErr};
 ghost use Rattle.startd_core.specs.Offers.{settled, next_offer, user_in, rank_in, update_of};
 
 use crate::secret::secret_of;
+use ad_tree::Ad;
 use ad_value::{Copied, Memory, Text};
 use claim_id::{ClaimId, ClaimNo, SlotId};
 use pool_mail::{Mail, SlotAd};
@@ -63,16 +64,26 @@ pub(crate) fn update_of(
     ensures { IfOk result (λ mail. mail ≡ update_of slot.now state.now reading) }
 {
     let user = user_of(alloc, state)?;
+    let (name, ad) = copy_label(alloc, slot)?;
     Ok(Mail::Update(SlotAd {
         slot: slot.id,
-        name: slot.name.copy(alloc)?,
+        name,
         claim: state.offer,
         pair: state.pair,
         user,
         rank: rank_of(state),
         at: reading,
-        ad: slot.ad.copy(alloc)?,
+        ad,
     }))
+}
+
+/// Copies of a slot's name and ad.
+pub(crate) fn copy_label(alloc: Global, slot: &Slot) -> Result<(Text, Ad), Memory>
+    ensures { IfOk result (λ label. label ≡ (slot.now.name, slot.now.ad)) }
+{
+    let name = slot.name.copy(alloc)?;
+    let ad = slot.ad.copy(alloc)?;
+    Ok((name, ad))
 }
 
 fn user_of(alloc: Global, state: &SlotState) -> Result<Option<Text>, Memory>

@@ -3,16 +3,16 @@ ghost use Rattle.std.specs.Option.{option_copied};
 ghost use Rattle.startd_slot.specs.declared.slot.Slot.{Slot};
 ghost use Rattle.startd_core.specs.DueTicks.{is_due, hangs_on_start};
 ghost use Rattle.startd_core.specs.Offers.{has_entered};
-ghost use Rattle.startd_core.specs.PreparedStartds.{startd_after};
+ghost use Rattle.startd_core.specs.PreparedStartds.{startd_after, after_prepared};
 ghost use Rattle.startd_core.specs.Sound.{IsSound};
-ghost use Rattle.startd_core.specs.Startds.{with_slot, place_of, slot_of, after_mail, stranger_step, received_at, after_end, ended_at, put_at, judges, after_tick, after_reboot};
+ghost use Rattle.startd_core.specs.Startds.{with_slot, place_of, slot_of, after_mail, stranger_step, received_at, after_end, ended_at, made_by, after_made, judges, after_tick, after_reboot};
 
 use crate::answer::{StartdAnswer, StartdStep, kill_answer, nothing_done};
-use crate::conclude::{Conclusion, Made, has_entered, made_by};
+use crate::conclude::{Made, has_entered, made_by};
 use crate::due::is_any_due;
 use crate::offers::Machine;
 use crate::prepared::{PreparedStartd, SlotsChange, StartdChange};
-use crate::ticks::{Ticks, boot_slots, tick_slots};
+use crate::ticks::{boot_slots, tick_slots};
 use ad_eval::Judged;
 use ad_tree::Ad;
 use ad_value::{Copied, Memory, Text};
@@ -174,6 +174,12 @@ impl Startd {
         ensures { option_copied result ≡ slot_of self.now slot }
     {
         let place = self.place_of(slot)?;
+        self.slot_at(place)
+    }
+
+    fn slot_at(&self, place: usize) -> Option<&Slot>
+        ensures { option_copied result ≡ slice_get self.now.slots place }
+    {
         self.slots.get(place)
     }
 
@@ -207,8 +213,7 @@ impl Startd {
 
     // The startd stays as it is.
     fn prepare_step(&self, step: StartdStep) -> PreparedStartd
-        ensures startd { startd_after result self.now ≡ self.now }
-        ensures step { result.step ≡ step }
+        ensures { after_prepared result self.now ≡ record { startd = self.now; step = step } }
     {
         PreparedStartd {
             change: self.change(SlotsChange::Same, self.offers, self.restless),
@@ -263,10 +268,8 @@ impl Startd {
         judged: Option<Judged>,
         reading: u64,
     ) -> Result<PreparedStartd, Memory>
-        ensures startd { IfOk result (λ p. startd_after p self.now
-            ≡ (after_mail self.now mail.now judged reading).startd) }
-        ensures step { IfOk result (λ p. p.step
-            ≡ (after_mail self.now mail.now judged reading).step) }
+        ensures { IfOk result (λ p. after_prepared p self.now
+            ≡ after_mail self.now mail.now judged reading) }
     {
         let Some(claim) = claim_of(mail) else {
             return Ok(self.prepare_step(nothing_done(alloc)));
@@ -288,15 +291,30 @@ impl Startd {
         judged: Option<Judged>,
         reading: u64,
     ) -> Result<PreparedStartd, Memory>
-        ensures startd { IfOk result (λ p. startd_after p self.now ≡ (received_at self.now place
-            (slice_get self.now.slots place) mail.now judged reading).startd) }
-        ensures step { IfOk result (λ p. p.step ≡ (received_at self.now place
-            (slice_get self.now.slots place) mail.now judged reading).step) }
+        ensures { IfOk result (λ p. after_prepared p self.now
+            ≡ received_at self.now place (slice_get self.now.slots place) mail.now judged reading) }
     {
-        let Some(slot) = self.slots.get(place) else {
+        let Some(slot) = self.slot_at(place) else {
             return Ok(self.prepare_step(nothing_done(alloc)));
         };
         let reaction = react(alloc, self.machine.boot, slot, mail, judged, reading)?;
+        let prepared = self.take_reaction(alloc, place, slot, reaction, reading)?;
+        Ok(prepared)
+    }
+
+    // The slot of a place is to become what a reaction comes to.
+    fn take_reaction(
+        &self,
+        alloc: Global,
+        place: usize,
+        slot: &Slot,
+        reaction: Reaction,
+        reading: u64,
+    ) -> Result<PreparedStartd, Memory>
+        requires { slice_get self.now.slots place ≡ Some slot.now }
+        ensures { IfOk result (λ p. after_prepared p self.now ≡ after_made self.now place
+            (made_by self.now.machine self.now.offers slot.now reaction reading)) }
+    {
         let made = made_by(alloc, self.machine, self.offers, slot, reaction, reading)?;
         Ok(self.put_made(place, slot, made))
     }
@@ -305,16 +323,10 @@ impl Startd {
     #[tactic(auto, unfolding(crate::specs::Startds::put_at))]
     fn put_made(&self, place: usize, slot: &Slot, made: Made) -> PreparedStartd
         requires { slice_get self.now.slots place ≡ Some slot.now }
-        ensures startd { startd_after result self.now ≡ put_at self.now place made.conclusion }
-        ensures step { result.step
-            ≡ record { mails = made.conclusion.mails; answer = made.answer } }
+        ensures { after_prepared result self.now ≡ after_made self.now place made }
     {
         let Made { conclusion, answer } = made;
-        let Conclusion {
-            state,
-            offers,
-            mails,
-        } = conclusion;
+        let (state, offers, mails) = conclusion.into_parts();
         let restless = self.restless || has_entered(&slot.state, &state);
         PreparedStartd {
             change: self.change(SlotsChange::Slot { place, state }, offers, restless),
@@ -362,9 +374,8 @@ impl Startd {
         ending: &Ending,
         reading: u64,
     ) -> Result<PreparedStartd, Memory>
-        ensures startd { IfOk result (λ p. startd_after p self.now
-            ≡ (after_end self.now ending.now reading).startd) }
-        ensures step { IfOk result (λ p. p.step ≡ (after_end self.now ending.now reading).step) }
+        ensures { IfOk result (λ p. after_prepared p self.now
+            ≡ after_end self.now ending.now reading) }
     {
         match self.place_of(ending.run.claim.slot) {
             Some(place) => self.take_end_at(alloc, place, ending, reading),
@@ -379,20 +390,18 @@ impl Startd {
         ending: &Ending,
         reading: u64,
     ) -> Result<PreparedStartd, Memory>
-        ensures startd { IfOk result (λ p. startd_after p self.now ≡ (ended_at self.now place
-            (slice_get self.now.slots place) ending.now reading).startd) }
-        ensures step { IfOk result (λ p. p.step ≡ (ended_at self.now place
-            (slice_get self.now.slots place) ending.now reading).step) }
+        ensures { IfOk result (λ p. after_prepared p self.now
+            ≡ ended_at self.now place (slice_get self.now.slots place) ending.now reading) }
     {
-        let Some(slot) = self.slots.get(place) else {
+        let Some(slot) = self.slot_at(place) else {
             return Ok(self.prepare_step(nothing_done(alloc)));
         };
         if !slot.state.runs(ending.run) {
             return Ok(self.prepare_step(nothing_done(alloc)));
         }
         let reaction = react_to_end(alloc, &slot.state, ending, reading)?;
-        let made = made_by(alloc, self.machine, self.offers, slot, reaction, reading)?;
-        Ok(self.put_made(place, slot, made))
+        let prepared = self.take_reaction(alloc, place, slot, reaction, reading)?;
+        Ok(prepared)
     }
 
     /// Whether a tick is due at a reading: at the first turn after a boot; where a slot entered
@@ -441,17 +450,10 @@ impl Startd {
     }
 
     fn take_tick(&self, alloc: Global, reading: u64) -> Result<PreparedStartd, Memory>
-        ensures startd { IfOk result (λ p. startd_after p self.now
-            ≡ (after_tick self.now reading).startd) }
-        ensures step { IfOk result (λ p. p.step ≡ (after_tick self.now reading).step) }
+        ensures { IfOk result (λ p. after_prepared p self.now
+            ≡ after_tick self.now reading) }
     {
-        let Ticks {
-            slots,
-            offers,
-            mails,
-            killed,
-            restless,
-        } = tick_slots(
+        let ticks = tick_slots(
             alloc,
             self.machine,
             &self.settings,
@@ -459,6 +461,7 @@ impl Startd {
             reading,
             self.offers,
         )?;
+        let (slots, offers, mails, killed, restless) = ticks.into_parts();
         let change = StartdChange {
             boot: self.machine.boot,
             offers,
@@ -497,14 +500,14 @@ impl Startd {
     }
 
     fn take_boot(&self, alloc: Global, reading: u64) -> Result<PreparedStartd, Memory>
-        ensures startd { IfOk result (λ p. startd_after p self.now
-            ≡ (after_reboot self.now reading).startd) }
-        ensures step { IfOk result (λ p. p.step ≡ (after_reboot self.now reading).step) }
+        ensures { IfOk result (λ p. after_prepared p self.now
+            ≡ after_reboot self.now reading) }
     {
         let Some(boot) = self.machine.boot.checked_add(1) else {
             return Err(Memory);
         };
-        let Ticks { slots, mails, .. } = boot_slots(alloc, &self.slots, reading, self.offers)?;
+        let ticks = boot_slots(alloc, &self.slots, reading, self.offers)?;
+        let (slots, _, mails, _killed, _) = ticks.into_parts();
         let change = StartdChange {
             boot,
             offers: self.offers,

@@ -2,11 +2,12 @@
 
 ghost use Rattle.std.specs.Prelude.{◌≡◌, ◌++◌, IfOk};
 ghost use Rattle.startd_core.specs.Startds.{no_ticks, tells_at, after_slot, after_slots, after_row, after_boots, after_booted};
+ghost use Rattle.startd_core.specs.Tellings.{with_told_slot};
 ghost use Rattle.startd_core.specs.TickTable.{killed_by};
 
 use crate::answer::RunList;
-use crate::conclude::{Conclusion, has_changed, has_entered, tell};
-use crate::offers::{Machine, settle_offer};
+use crate::conclude::{has_changed, has_entered, tell};
+use crate::offers::{Machine, copy_label, settle_offer};
 use crate::tick::{TickRow, apply_row, is_kill, is_update_due, slot_row};
 use ad_value::{Copied, Memory, Seq};
 use pool_mail::{MailList, Settings};
@@ -17,13 +18,24 @@ use std::alloc::Global;
 pub(crate) type SlotList = Seq<Slot>;
 
 /// The slots that were looked at, as they stand then, and what is sent and killed.
-#[derive(Drop)]
 pub(crate) struct Ticks {
     pub slots: SlotList,
     pub offers: u64,
     pub mails: MailList,
     pub killed: RunList,
     pub restless: bool,
+}
+
+impl Drop for Ticks {
+    fn drop(self) {
+        let Ticks {
+            slots: _slots,
+            offers: _,
+            mails: _mails,
+            killed: _killed,
+            restless: _,
+        } = self;
+    }
 }
 
 impl Ticks {
@@ -39,101 +51,85 @@ impl Ticks {
         }
     }
 
+    pub(crate) fn into_parts(self) -> (SlotList, u64, MailList, RunList, bool)
+        ensures { result ≡ (self.slots, self.offers, self.mails, self.killed, self.restless) }
+    {
+        let Ticks {
+            slots,
+            offers,
+            mails,
+            killed,
+            restless,
+        } = self;
+        (slots, offers, mails, killed, restless)
+    }
+
     /// Time passes for one more slot.
-    pub(crate) fn tick(
-        self,
+    fn tick(
+        &mut self,
         alloc: Global,
         machine: Machine,
         settings: &Settings,
         slot: &Slot,
         reading: u64,
-    ) -> Result<Ticks, Memory>
-        ensures { IfOk result (λ t. t
-            ≡ after_slot machine settings.now slot.now reading self) }
+    ) -> Result<(), Memory>
+        ensures { IfOk result (λ _. self.new
+            ≡ after_slot machine settings.now slot.now reading self.old) }
     {
         let row = slot_row(alloc, slot, settings, reading)?;
-        self.take_row(alloc, machine, settings, slot, row, reading)
+        self.take_row(alloc, machine, settings, slot, row, reading)?;
+        Ok(())
     }
 
     fn take_row(
-        self,
+        &mut self,
         alloc: Global,
         machine: Machine,
         settings: &Settings,
         slot: &Slot,
         row: TickRow,
         reading: u64,
-    ) -> Result<Ticks, Memory>
-        ensures { IfOk result (λ t. t
-            ≡ after_row machine settings.now slot.now row reading self) }
+    ) -> Result<(), Memory>
+        ensures { IfOk result (λ _. self.new
+            ≡ after_row machine settings.now slot.now row reading self.old) }
     {
-        let Ticks {
-            mut slots,
-            offers,
-            mails,
-            mut killed,
-            restless,
-        } = self;
+        push_killed(&mut self.killed, row, &slot.state)?;
         let mut state = slot.state.copy(alloc)?;
         apply_row(&mut state, row, reading);
-        let offers = settle_offer(machine, slot.id, &mut state, offers)?;
+        self.offers = settle_offer(machine, slot.id, &mut state, self.offers)?;
         let tells = tells_at(slot, &state, settings, reading);
-        let made = Conclusion {
-            state,
-            offers,
-            mails,
-        };
-        let Conclusion {
-            state,
-            offers,
-            mails,
-        } = tell(alloc, slot, made, tells, reading)?;
-        push_killed(&mut killed, row, &slot.state)?;
-        let restless = restless || has_entered(&slot.state, &state);
-        let after = with_state(alloc, slot, state)?;
-        slots.push(after)?;
-        Ok(Ticks {
-            slots,
-            offers,
-            mails,
-            killed,
-            restless,
-        })
+        self.add(alloc, slot, state, tells, reading)?;
+        Ok(())
     }
 
     /// The machine boots with one more slot.
-    pub(crate) fn boot(self, alloc: Global, slot: &Slot, reading: u64) -> Result<Ticks, Memory>
-        ensures { IfOk result (λ t. t ≡ after_booted slot.now reading self) }
+    fn boot(&mut self, alloc: Global, slot: &Slot, reading: u64) -> Result<(), Memory>
+        ensures { IfOk result (λ _. self.new ≡ after_booted slot.now reading self.old) }
     {
-        let Ticks {
-            mut slots,
-            offers,
-            mails,
-            killed,
-            restless,
-        } = self;
         let state = SlotState::after_boot(reading);
         let tells = has_changed(&slot.state, &state);
-        let made = Conclusion {
-            state,
-            offers,
-            mails,
-        };
-        let Conclusion {
-            state,
-            offers,
-            mails,
-        } = tell(alloc, slot, made, tells, reading)?;
-        let restless = restless || has_entered(&slot.state, &state);
+        self.add(alloc, slot, state, tells, reading)?;
+        Ok(())
+    }
+
+    // One more slot, which stands so, with an Update where it tells it.
+    fn add(
+        &mut self,
+        alloc: Global,
+        slot: &Slot,
+        state: SlotState,
+        tells: bool,
+        reading: u64,
+    ) -> Result<(), Memory>
+        ensures { IfOk result (λ _. self.new
+            ≡ with_told_slot slot.now state tells reading self.old) }
+    {
+        let mut state = state;
+        tell(alloc, slot, &mut state, &mut self.mails, tells, reading)?;
+        self.restless = self.restless || has_entered(&slot.state, &state);
         let after = with_state(alloc, slot, state)?;
-        slots.push(after)?;
-        Ok(Ticks {
-            slots,
-            offers,
-            mails,
-            killed,
-            restless,
-        })
+        self.slots.push(after)?;
+        Ok(())
     }
 }
 
@@ -151,7 +147,7 @@ pub(crate) fn tick_slots(
 {
     let mut ticks = Ticks::new(alloc, offers);
     for slot in slots {
-        ticks = ticks.tick(alloc, machine, settings, slot, reading)?;
+        ticks.tick(alloc, machine, settings, slot, reading)?;
     }
     Ok(ticks)
 }
@@ -167,7 +163,7 @@ pub(crate) fn boot_slots(
 {
     let mut ticks = Ticks::new(alloc, offers);
     for slot in slots {
-        ticks = ticks.boot(alloc, slot, reading)?;
+        ticks.boot(alloc, slot, reading)?;
     }
     Ok(ticks)
 }
@@ -196,10 +192,11 @@ fn push_killed(killed: &mut RunList, row: TickRow, state: &SlotState) -> Result<
 fn with_state(alloc: Global, slot: &Slot, state: SlotState) -> Result<Slot, Memory>
     ensures { IfOk result (λ after. after ≡ record slot.now { state = state }) }
 {
+    let (name, ad) = copy_label(alloc, slot)?;
     Ok(Slot {
         id: slot.id,
-        name: slot.name.copy(alloc)?,
-        ad: slot.ad.copy(alloc)?,
+        name,
+        ad,
         state,
     })
 }
