@@ -18,3 +18,4 @@ mod Reaches
 pub mod Settling
 pub mod Snapshots
 pub mod Sound
+mod Under

@@ -1,6 +1,6 @@
 -- The attributes of an ad whose names are among some, and those of a job.
-use Rattle.std.proofs.Common.{◌≡◌, ℕ, zero, suc, ◌+◌, ◌<◌, ◌≤◌, ◌||◌, Bool, true, false, cond, List, [], ◌∷◌, ◌++◌, length, take, drop, get_or, Some, None, refl, ap, sym, ◌∙◌, subst, arith, append_assoc, append-nil}
-use Rattle.std.specs.Prelude.{slice_get, ◌↔◌, ◌≢◌}
+use Rattle.std.proofs.Common.{◌≡◌, ℕ, zero, suc, ◌+◌, ◌<◌, ◌≤◌, ◌||◌, Bool, true, false, cond, List, [], ◌∷◌, ◌++◌, length, take, drop, get_or, Some, None, refl, ap, sym, ◌∙◌, subst, arith, append_assoc, append-nil, inl, inr, Ok, Err}
+use Rattle.std.specs.Prelude.{slice_get, ◌↔◌, ◌≢◌, Result, IfOk}
 use Rattle.std.specs.List.{list_any, filter, All}
 use Rattle.std.proofs.lemmas.List.{drop_more, drop_all, take_all, take_more, map-append}
 use Rattle.std.proofs.lemmas.List.Elements.{filter_more}
@@ -11,7 +11,7 @@ use Rattle.ad_tree.specs.Ad.{Attributes, AreDistinct, lookup, without, names}
 use Rattle.negotiate.specs.declared.links.Link.{Link}
 use Rattle.negotiate.specs.Links.{is_linked, is_among, HasLinks, kept_named, name_of}
 use Rattle.negotiate.specs.Significant.{Reach, is_first_name, leads_to, IsSignificantPart}
-use Rattle.negotiate.specs.Clustering.{AreLinksOf, AreClusters}
+use Rattle.negotiate.specs.Clustering.{Clustering, IsNumbered, AreLinksOf, AreClusters}
 use Rattle.negotiate.proofs.ClusterMembers.{name_refl, name_sym}
 use Rattle.negotiate.proofs.LinkLemmas.{at_place}
 use Rattle.negotiate.proofs.Reaches.{reach_by}
@@ -115,6 +115,19 @@ one_cluster parts later part pairs all e = subst AreClusters (sym e) (all_pairs_
 pub at_end : (parts : List Attributes) (part : Attributes) → slice_get (parts ++ part ∷ []) (length parts) ≡ Some part
 at_end [] part = refl
 at_end (p ∷ parts) part = at_end parts part
+
+pub numbered_known : {E : Type 0} (r : Result ℕ E) (c : Clustering) (job part : Attributes) (i : ℕ) → IsSignificantPart c.slots job part → slice_get c.parts i ≡ Some part → IfOk r (λ n. n ≡ i) → IfOk r (IsNumbered c c job)
+numbered_known (Ok n) c job part i of_job at is = record { part = part; of_job = of_job; at_number = ap (slice_get c.parts) is ∙ at; slots = refl; parts = inl refl }
+numbered_known (Err e) c job part i of_job at is = tt
+
+pub numbered_new : (c d : Clustering) (job part : Attributes) (n : ℕ) → IsSignificantPart c.slots job part → n ≡ length c.parts → d ≡ record { slots = c.slots; parts = c.parts ++ part ∷ [] } → IsNumbered c d job n
+numbered_new c d job part n of_job last put = record {
+  part = part;
+  of_job = of_job;
+  at_number = ap (slice_get d.parts) last ∙ (ap (λ (k : Clustering). slice_get k.parts (length c.parts)) put ∙ at_end c.parts part);
+  slots = ap (λ (k : Clustering). k.slots) put;
+  parts = inr (ap (λ (k : Clustering). k.parts) put, last);
+}
 
 pub names_more : (ad : Attributes) (i : ℕ) (d : List ℕ × Tree) (before after : List (List ℕ)) → i < length ad → before ≡ names (take i ad) → after ≡ before ++ name_of (slice_get ad i) → after ≡ names (take (i + 1) ad)
 names_more ad i d before after h b a =

@@ -97,7 +97,7 @@ impl Clusters {
         if let Some(place) = place {
             return number_of(place);
         }
-        let number = number_of(self.parts.len())?;
+        let number = number_of(self.len())?;
         self.put(alloc, part)?;
         Ok(number)
     }
