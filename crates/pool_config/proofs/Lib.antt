@@ -1,3 +1,4 @@
+pub mod Becoming
 pub mod EachSlots
 pub mod Expressions
 pub mod Limits

@@ -88,6 +88,11 @@ slots_with others n m (Some k) =
 abbrev pub is_full : List ℕ → Attributes → Bool
 is_full x ad = nat_le MAX_MACHINE_ATTRIBUTES (length ad) && not (is_some (lookup x ad))
 
+-- a machine's own attributes with one more, where there is room for its name
+abbrev pub attributes_with : List ℕ → ℕ → Tree → Attributes → Result Attributes ConfigError
+attributes_with x n e ad =
+    if is_full x ad then Err (error.Full n) else Ok (with_attribute x e ad)
+
 abbrev pub attribute_with : List ℕ → ℕ → ConfiguredMachine → Option Tree
     → Result ConfiguredMachine ConfigError
 attribute_with x n m None = Err (error.BadValue n)

@@ -1,17 +1,18 @@
 // What lines set of a machine.
 
 ghost use Rattle.std.specs.Prelude.{◌≡◌, map};
+ghost use Rattle.ad_tree.specs.Tree.{tree};
 ghost use Rattle.submit_lines.specs.Numbers.{decimal};
 ghost use Rattle.pool_config.specs.Configuration.{machine_of, total_slots};
 ghost use Rattle.pool_config.specs.Errors.{Becomes};
-ghost use Rattle.pool_config.specs.Settings.{machine_with, slots_with, cpus_with, memory_with, disk_with, start_with, rank_with, attribute_with, expression_in, is_full};
+ghost use Rattle.pool_config.specs.Settings.{machine_with, slots_with, cpus_with, memory_with, disk_with, start_with, rank_with, attribute_with, attributes_with, expression_in, is_full};
 
 use crate::config::{MAX_MACHINE_ATTRIBUTES, Machine};
 use crate::error::ConfigError;
 use crate::setting_word::SlotWord;
 use crate::settings::are_above;
-use crate::value::{MAX_AMOUNT, expression_in, small_within};
-use ad_tree::{Ad, SetError};
+use crate::value::{MAX_AMOUNT, expression_in, set_expression, small_within};
+use ad_tree::{Ad, Expr, SetError};
 use std::alloc::Global;
 use submit_lines::decimal;
 
@@ -98,26 +99,14 @@ impl Machine {
         ensures { Becomes (machine_of self.new) result
             (start_with text.now line (machine_of self.old)) }
     {
-        match expression_in(alloc, text)? {
-            Some(expr) => {
-                self.start = expr;
-                Ok(())
-            }
-            None => Err(ConfigError::BadValue { line }),
-        }
+        set_expression(&mut self.start, alloc, text, line)
     }
 
     fn set_rank(&mut self, alloc: Global, text: &str, line: u32) -> Result<(), ConfigError>
         ensures { Becomes (machine_of self.new) result
             (rank_with text.now line (machine_of self.old)) }
     {
-        match expression_in(alloc, text)? {
-            Some(expr) => {
-                self.rank = expr;
-                Ok(())
-            }
-            None => Err(ConfigError::BadValue { line }),
-        }
+        set_expression(&mut self.rank, alloc, text, line)
     }
 
     /// Sets an attribute of the machine's own.
@@ -134,14 +123,27 @@ impl Machine {
         let Some(expr) = expression_in(alloc, text)? else {
             return Err(ConfigError::BadValue { line });
         };
-        if is_full(&self.attrs, name) {
-            return Err(ConfigError::Full { line });
-        }
-        match self.attrs.set(alloc, name, expr) {
-            Ok(()) => Ok(()),
-            Err(SetError::Full) => Err(ConfigError::Full { line }),
-            Err(SetError::Memory) => Err(ConfigError::Memory),
-        }
+        set_own(&mut self.attrs, alloc, name, expr, line)
+    }
+}
+
+// Sets an attribute of a machine's own.
+fn set_own(
+    attrs: &mut Ad,
+    alloc: Global,
+    name: &str,
+    expr: Expr,
+    line: u32,
+) -> Result<(), ConfigError>
+    ensures { Becomes attrs.new result (attributes_with name.now line (tree expr) attrs.old) }
+{
+    if is_full(attrs, name) {
+        return Err(ConfigError::Full { line });
+    }
+    match attrs.set(alloc, name, expr) {
+        Ok(()) => Ok(()),
+        Err(SetError::Full) => Err(ConfigError::Full { line }),
+        Err(SetError::Memory) => Err(ConfigError::Memory),
     }
 }
 

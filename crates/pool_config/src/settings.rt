@@ -15,7 +15,7 @@ use crate::key::Key;
 use crate::setting_word::{Interval, PoolWord, SlotWord};
 use crate::users::Users;
 use crate::value::{
-    MAX_CEILING, MAX_FACTOR, MAX_SECONDS, expression_in, is_machine_name, number_within,
+    MAX_CEILING, MAX_FACTOR, MAX_SECONDS, is_machine_name, number_within, set_expression,
     small_within,
 };
 use ad_token::is_name;
@@ -124,13 +124,7 @@ impl Settings {
         ensures { Becomes (so_far self.new) result
             (pool_with PoolWord.PreemptionRequirements text.now line (so_far self.old)) }
     {
-        match expression_in(alloc, text)? {
-            Some(expr) => {
-                self.config.preemption_requirements = expr;
-                Ok(())
-            }
-            None => Err(ConfigError::BadValue { line }),
-        }
+        set_expression(&mut self.config.preemption_requirements, alloc, text, line)
     }
 
     fn set_ceiling(

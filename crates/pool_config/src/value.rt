@@ -5,8 +5,10 @@ ghost use Rattle.std.specs.List.{list_all};
 ghost use Rattle.std.specs.Option.{option_map};
 ghost use Rattle.ad_token.specs.Names.{is_name_byte};
 ghost use Rattle.ad_tree.specs.Tree.{tree};
-ghost use Rattle.pool_config.specs.Settings.{number_within, in_bounds, expression_in, is_memory, is_machine_byte, is_machine_name};
+ghost use Rattle.pool_config.specs.Errors.{Becomes};
+ghost use Rattle.pool_config.specs.Settings.{with_value, number_within, in_bounds, expression_in, is_memory, is_machine_byte, is_machine_name};
 
+use crate::error::ConfigError;
 use ad_parse::{ParseError, parse_expr};
 use ad_tree::Expr;
 use ad_value::Memory;
@@ -65,6 +67,26 @@ pub(crate) fn expression_in(alloc: Global, text: &str) -> Result<Option<Expr>, M
             }
             Ok(None)
         }
+    }
+}
+
+/// Sets an expression to the one that a text of line `line` says. Computes in O(bytes of the text
+/// and of its canonical text).
+pub(crate) fn set_expression(
+    expr: &mut Expr,
+    alloc: Global,
+    text: &str,
+    line: u32,
+) -> Result<(), ConfigError>
+    ensures { Becomes (tree expr.new) result
+        (with_value line (λ e. e) (expression_in text.now)) }
+{
+    match expression_in(alloc, text)? {
+        Some(said) => {
+            *expr = said;
+            Ok(())
+        }
+        None => Err(ConfigError::BadValue { line }),
     }
 }
 

@@ -1,0 +1,35 @@
+-- A part that becomes something, and the whole around it.
+use Rattle.std.proofs.Common.{◌≡◌, ℕ, List, Option, Some, None, Result, Ok, Err, refl, ap, sym, ◌∙◌}
+use Rattle.ad_tree.specs.Tree.{Tree}
+use Rattle.pool_config.specs.declared.error.ConfigError.{ConfigError}
+use Rattle.pool_config.specs.Configuration.{ConfiguredMachine, plain_machine}
+use Rattle.pool_config.specs.Errors.{Becomes}
+use Rattle.pool_config.specs.Settings.{SoFar, with_value, whole, machine_check, begin_if, begin_behind}
+use Rattle.pool_config.proofs.Readings.{unless_map}
+
+module _ {X Y : Type 0} (f : X → Y) where
+  mapped : Result X ConfigError → Result Y ConfigError
+  mapped (Ok x) = Ok (f x)
+  mapped (Err e) = Err e
+
+  becomes : (new : X) (r : Result (Unit {0}) ConfigError) (q : Result X ConfigError) (p : Result Y ConfigError) → mapped q ≡ p → Becomes new r q → Becomes (f new) r p
+  unfolding mapped
+  becomes new (Ok u) q p is h = ap mapped h ∙ is
+  becomes new (Err e) q p is h =
+      unless_map (λ (k : Result X ConfigError). k ≡ q) (λ (k : Result Y ConfigError). k ≡ p) e (λ h. ap mapped h ∙ is) h
+
+module _ {X : Type 0} (f : Tree → X) where
+  valued : (n : ℕ) (o : Option Tree) → mapped f (with_value n (λ e. e) o) ≡ with_value n f o
+  unfolding mapped
+  valued n (Some e) = refl
+  valued n None = refl
+
+  pub value_becomes : (new : Tree) (n : ℕ) (r : Result (Unit {0}) ConfigError) (o : Option Tree) → Becomes new r (with_value n (λ e. e) o) → Becomes (f new) r (with_value n f o)
+  value_becomes new n r o = becomes f new r (with_value n (λ e. e) o) (with_value n f o) (valued n o)
+
+-- a machine that begins once the last one is kept
+pub machine_begins : (x : List ℕ) (n : ℕ) (s kept : SoFar) (m : ConfiguredMachine) → kept ≡ record { config = whole s; last = None } → machine_check x n kept.config.machines ≡ Ok tt → m ≡ plain_machine x → Ok (record kept { last = Some m }) ≡ begin_behind x n (whole s)
+machine_begins x n s kept m is checked plain =
+    ap (λ m. Ok (record kept { last = Some m })) plain
+    ∙ ap (λ (k : SoFar). Ok (record k { last = Some (plain_machine x) })) is
+    ∙ ap (begin_if x (whole s)) (sym (sym (ap (λ (k : SoFar). machine_check x n k.config.machines) is) ∙ checked))
