@@ -1,10 +1,10 @@
-ghost use Rattle.std.specs.Prelude.{◌≡◌, ◌<◌, ◌^◌, ◌++◌, map, IfOk, OnOk};
+ghost use Rattle.std.specs.Prelude.{◌≡◌, ◌<◌, ◌^◌, ◌++◌, [], map, IfOk, OnOk};
 ghost use Rattle.ad_tree.specs.Tree.{tree};
 ghost use Rattle.line_text.specs.Macros.{Macros};
 ghost use Rattle.submit_file.specs.Errors.{UnlessMemory};
 ghost use Rattle.submit_file.specs.Drafts.{draft_of, with_given};
 ghost use Rattle.submit_file.specs.Origins.{origin_of, other_command, own_line};
-ghost use Rattle.submit_file.specs.OneJob.{common, whole, Takes, TakesAll, Fills, IsJob};
+ghost use Rattle.submit_file.specs.OneJob.{common, origins, whole, Takes, TakesAll, Fills, IsJob};
 ghost use Rattle.submit_file.specs.Plans.{origins_of, Spares, IsPartFor, ArePartsFor, IsPlanFor};
 
 use crate::draft::Draft;
@@ -20,15 +20,22 @@ use std::alloc::Global;
 use submit_lines::Command;
 
 /// An attribute of the jobs of a queue statement.
-#[derive(Drop)]
 pub(crate) struct Part<'a> {
     pub(crate) source: Source<'a>,
     /// What it is for each of the jobs, where that is known before there is a job.
     pub(crate) fixed: Option<NamedValue<'a>>,
 }
 
+impl Drop for Part<'_> {
+    fn drop(self) {
+        let Part {
+            source: _,
+            fixed: _fixed,
+        } = self;
+    }
+}
+
 /// How the jobs of a queue statement are made: what is the same for all of them is known.
-#[derive(Drop)]
 pub struct Plan<'a> {
     pub statement: Statement<'a>,
     pub(crate) owner: Part<'a>,
@@ -36,8 +43,18 @@ pub struct Plan<'a> {
     pub(crate) parts: Vec<Part<'a>>,
 }
 
+impl Drop for Plan<'_> {
+    fn drop(self) {
+        let Plan {
+            statement: _,
+            owner: _owner,
+            parts: _parts,
+        } = self;
+    }
+}
+
 // The commands, in the order of their attributes.
-const COMMANDS: [Command; 20] = [
+const COMMANDS: &[Command] = &[
     Command::Executable,
     Command::Arguments,
     Command::Universe,
@@ -69,14 +86,31 @@ impl<'a> Statement<'a> {
         ensures plan { IfOk result (λ p. (t : Macros) → Spares table.now t → IsPlanFor t p) }
     {
         let owner = self.part(alloc, Source::Owner, table)?;
-        let mut parts = Vec::new(alloc);
-        self.add_commands(alloc, table, &COMMANDS, &mut parts)?;
-        self.add_lines(alloc, table, self.file.attributes.as_slice(), &mut parts)?;
-        Ok(Plan {
+        let mut plan = Plan {
             statement: self,
             owner,
-            parts,
-        })
+            parts: Vec::new(alloc),
+        };
+        self.add_parts(alloc, table, &mut plan.parts)?;
+        Ok(plan)
+    }
+
+    // Adds all but the owner.
+    fn add_parts(
+        self,
+        alloc: Global,
+        table: &MacroTable,
+        parts: &mut Vec<Part<'a>>,
+    ) -> Result<(), Memory>
+        requires { parts.old.items ≡ [] }
+        ensures sources { OnOk result (
+            origins_of parts.new.items ≡ origins self.entry.file.now) }
+        ensures parts { OnOk result ((t : Macros) → Spares table.now t
+            → ArePartsFor self.entry t parts.new.items) }
+    {
+        self.add_commands(alloc, table, COMMANDS, parts)?;
+        self.add_lines(alloc, table, self.file.attributes.as_slice(), parts)?;
+        Ok(())
     }
 
     fn add_commands(

@@ -41,11 +41,20 @@ pub struct Statement<'a> {
 }
 
 /// What an attribute is, under which name, and where that is set.
-#[derive(Drop)]
 pub(crate) struct NamedValue<'a> {
     pub(crate) name: &'a str,
     pub(crate) value: Result<Option<Expr>, ValueError>,
     pub(crate) place: Place,
+}
+
+impl Drop for NamedValue<'_> {
+    fn drop(self) {
+        let NamedValue {
+            name: _,
+            value: _value,
+            place: _,
+        } = self;
+    }
 }
 
 /// What a source gives: a value, or why its macros cannot be replaced.
