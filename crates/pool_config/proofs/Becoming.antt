@@ -5,7 +5,7 @@ use Rattle.pool_config.specs.declared.error.ConfigError.{ConfigError}
 use Rattle.pool_config.specs.Configuration.{ConfiguredMachine, plain_machine}
 use Rattle.pool_config.specs.Errors.{Becomes}
 use Rattle.pool_config.specs.Settings.{SoFar, with_value, whole, machine_check, begin_if, begin_behind}
-use Rattle.pool_config.proofs.Readings.{unless_map}
+use Rattle.pool_config.proofs.Readings.{unless, unless_map}
 
 module _ {X Y : Type 0} (f : X → Y) where
   mapped : Result X ConfigError → Result Y ConfigError
@@ -27,9 +27,14 @@ module _ {X : Type 0} (f : Tree → X) where
   pub value_becomes : (new : Tree) (n : ℕ) (r : Result (Unit {0}) ConfigError) (o : Option Tree) → Becomes new r (with_value n (λ e. e) o) → Becomes (f new) r (with_value n f o)
   value_becomes new n r o = becomes f new r (with_value n (λ e. e) o) (with_value n f o) (valued n o)
 
--- a machine that begins once the last one is kept
+-- a machine that begins once the last one is kept, or may not begin
 pub machine_begins : (x : List ℕ) (n : ℕ) (s kept : SoFar) (m : ConfiguredMachine) → kept ≡ record { config = whole s; last = None } → machine_check x n kept.config.machines ≡ Ok tt → m ≡ plain_machine x → Ok (record kept { last = Some m }) ≡ begin_behind x n (whole s)
 machine_begins x n s kept m is checked plain =
     ap (λ m. Ok (record kept { last = Some m })) plain
     ∙ ap (λ (k : SoFar). Ok (record k { last = Some (plain_machine x) })) is
-    ∙ ap (begin_if x (whole s)) (sym (sym (ap (λ (k : SoFar). machine_check x n k.config.machines) is) ∙ checked))
+    ∙ ap (begin_if x (whole s)) (sym checked ∙ ap (λ (k : SoFar). machine_check x n k.config.machines) is)
+
+pub machine_refused : (x : List ℕ) (n : ℕ) (s kept new : SoFar) (e : ConfigError) → kept ≡ record { config = whole s; last = None } → machine_check x n kept.config.machines ≡ Err e → Becomes new (Err e) (begin_behind x n (whole s))
+machine_refused x n s kept new e is refused =
+    unless (λ (q : Result SoFar ConfigError). q ≡ begin_behind x n (whole s)) (Err e)
+    (ap (begin_if x (whole s)) (sym refused ∙ ap (λ (k : SoFar). machine_check x n k.config.machines) is))

@@ -171,10 +171,14 @@ impl Settings {
             (pool_with PoolWord.Machine text.now line (so_far self.old)) }
     {
         self.keep_last()?;
-        self.config.check_machine(text, line)?;
-        let machine = Machine::plain(alloc, text)?;
-        self.last = Some(machine);
-        Ok(())
+        match self.config.check_machine(text, line) {
+            Ok(()) => {
+                let machine = Machine::plain(alloc, text)?;
+                self.last = Some(machine);
+                Ok(())
+            }
+            Err(error) => Err(error),
+        }
     }
 
     // Puts the last machine behind the others.
