@@ -1,3 +1,4 @@
+pub mod Copies
 pub mod Openings
 pub mod PoolJobs
 pub mod PoolViews

@@ -37,7 +37,6 @@ pub const MAX_JOBS: u64 = 10_000;
 pub const LAST_POOL_BOOT: u32 = 2_147_483_647;
 
 /// What a pool opens with.
-#[derive(Drop)]
 pub struct Opening {
     /// Of each slot its number, its name and its ad count; by machine, from 0, and on each machine
     /// from 1.
@@ -58,6 +57,23 @@ pub struct Opening {
     pub pool_boot: u32,
     /// What the secrets of claims are made of.
     pub secret_key: u64,
+}
+
+impl Drop for Opening {
+    fn drop(self) {
+        let Opening {
+            slots: _slots,
+            settings: _,
+            wishes: _wishes,
+            allow: _allow,
+            queue: _queue,
+            next_tx: _,
+            log_mark: _log_mark,
+            end_marks: _end_marks,
+            pool_boot: _,
+            secret_key: _,
+        } = self;
+    }
 }
 
 // ---- what a caller has to see to
@@ -257,11 +273,33 @@ fn machine_count(startds: &Vec<Startd>) -> Result<u16, Memory>
 // ---- the parts
 
 // The tables of a pool.
-#[derive(Drop)]
-struct Tables {
-    daemons: Daemons,
-    mails: Mails,
-    orders: Orders,
+pub(crate) struct Tables {
+    pub daemons: Daemons,
+    pub mails: Mails,
+    pub orders: Orders,
+}
+
+impl Drop for Tables {
+    fn drop(self) {
+        let Tables {
+            daemons: _daemons,
+            mails: _mails,
+            orders: _orders,
+        } = self;
+    }
+}
+
+impl Tables {
+    pub(crate) fn into_parts(self) -> (Daemons, Mails, Orders)
+        ensures { result ≡ (self.daemons, self.mails, self.orders) }
+    {
+        let Tables {
+            daemons,
+            mails,
+            orders,
+        } = self;
+        (daemons, mails, orders)
+    }
 }
 
 fn new_tables(
@@ -287,11 +325,33 @@ fn new_tables(
 }
 
 // What a pool has of its queue.
-#[derive(Drop)]
 struct QueueParts {
     schedd: Schedd,
     acked: LinkedList<JobId, Global>,
     ordered: LinkedList<JobId, Global>,
+}
+
+impl Drop for QueueParts {
+    fn drop(self) {
+        let QueueParts {
+            schedd: _schedd,
+            acked: _acked,
+            ordered: _ordered,
+        } = self;
+    }
+}
+
+impl QueueParts {
+    fn into_parts(self) -> (Schedd, LinkedList<JobId, Global>, LinkedList<JobId, Global>)
+        ensures { result ≡ (self.schedd, self.acked, self.ordered) }
+    {
+        let QueueParts {
+            schedd,
+            acked,
+            ordered,
+        } = self;
+        (schedd, acked, ordered)
+    }
 }
 
 fn read_queue(alloc: Global, queue: &Queue, settings: Settings) -> Result<QueueParts, Memory>
@@ -309,58 +369,56 @@ fn read_queue(alloc: Global, queue: &Queue, settings: Settings) -> Result<QueueP
     })
 }
 
-// The pool of these parts.
-fn join_parts(
-    alloc: Global,
-    opening: Opening,
-    startds: Vec<Startd>,
-    tables: Tables,
-    parts: QueueParts,
-) -> PoolState
-    ensures { IsJoined opening startds.items tables parts result }
-{
-    let Opening {
-        settings,
-        queue,
-        next_tx,
-        log_mark,
-        end_marks,
-        ..
-    } = opening;
-    let Tables {
-        daemons,
-        mails,
-        orders,
-    } = tables;
-    let QueueParts {
-        schedd,
-        acked,
-        ordered,
-    } = parts;
-    let counts = Counts {
-        jobs: acked.len() as u64,
-        bytes: queue_size(&queue),
-    };
-    PoolState {
-        daemons,
-        mails,
-        orders,
-        machines: Machines::from_vec(startds),
-        schedd,
-        queue,
-        pending: None,
-        next_tx,
-        finished: Finished::new(),
-        acked,
-        ordered,
-        reports: LinkedList::new(alloc),
-        log_mark,
-        end_marks: Seq::from_vec(end_marks),
-        settings,
-        latest: 0,
-        events: 0,
-        closed: false,
-        counts,
+impl Opening {
+    // The pool of these parts.
+    fn join_parts(
+        self,
+        alloc: Global,
+        startds: Vec<Startd>,
+        tables: Tables,
+        parts: QueueParts,
+    ) -> PoolState
+        ensures { IsJoined self startds.items tables parts result }
+    {
+        let Opening {
+            slots: _slots,
+            settings,
+            wishes: _wishes,
+            allow: _allow,
+            queue,
+            next_tx,
+            log_mark,
+            end_marks,
+            pool_boot: _,
+            secret_key: _,
+        } = self;
+        let (daemons, mails, orders) = tables.into_parts();
+        let (schedd, acked, ordered) = parts.into_parts();
+        let counts = Counts {
+            jobs: acked.len() as u64,
+            bytes: queue_size(&queue),
+        };
+        PoolState {
+            daemons,
+            mails,
+            orders,
+            machines: Machines::from_vec(startds),
+            schedd,
+            queue,
+            pending: None,
+            next_tx,
+            finished: Finished::new(),
+            acked,
+            ordered,
+            reports: LinkedList::new(alloc),
+            log_mark,
+            end_marks: Seq::from_vec(end_marks),
+            settings,
+            latest: 0,
+            events: 0,
+            closed: false,
+            counts,
+        }
     }
 }
 
@@ -383,6 +441,6 @@ impl PoolState {
         let wishes = opening.wishes.as_slice();
         let tables = new_tables(alloc, machines, boot, &opening.allow, wishes)?;
         let parts = read_queue(alloc, &opening.queue, opening.settings)?;
-        Ok(join_parts(alloc, opening, startds, tables, parts))
+        Ok(opening.join_parts(alloc, startds, tables, parts))
     }
 }
