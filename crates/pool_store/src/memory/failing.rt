@@ -1,6 +1,6 @@
 //! A store in memory that fails and stops where it was told to.
-ghost use Rattle.std.specs.Prelude.{◌≡◌, ◌≢◌, ◌↔◌, ◌≤◌, ◌-◌, None, Some, length, min, IsErrOf, IsOkUnless, IsOkAnd, MatchOption, MatchResult};
-ghost use Rattle.std.specs.Option.{option_copied, option_map, option_map_or};
+ghost use Rattle.std.specs.Prelude.{◌≡◌, ◌≢◌, ◌≤◌, ◌-◌, ◌++◌, None, Some, Err, length, take, IfSome, IsErr, IsErrOf, IsOkUnless, IsOkAnd, MatchOption, OnOk};
+ghost use Rattle.std.specs.Option.{option_map};
 ghost use Rattle.pool_outer.specs.declared.store.StoreError.TheVariants.{Failed};
 ghost use Rattle.pool_outer.specs.Cause.{HasCause};
 ghost use Rattle.pool_outer.specs.Files.{bytes_in, Appends, Syncs, Cuts, Renames, Misses, Learns, Relabels};
@@ -35,7 +35,7 @@ impl Drop for MemStore {
 }
 
 impl MemStore {
-    ghost use Rattle.pool_store.specs.MemoryParts.{bytes_left, files_of, store_calls, sure_store, FailsNext};
+    ghost use Rattle.pool_store.specs.MemoryParts.{bytes_left, files_in, files_of, names_in, solids_in, store_calls, sure_store, FailsNext, Goes};
 
     /// Files all of which are solid, and the calls that fail.
     pub fn new(files: Vec<MemFile>, fails: Vec<u64>) -> MemStore
@@ -85,14 +85,60 @@ impl MemStore {
         Ok(())
     }
 
-    // How many of so many bytes may be written.
-    fn room_for(&self, count: usize) -> usize
-        ensures { result ≡ option_map_or (λ left. min left count) self.now.left count }
+    // So many of the bytes that were left are written.
+    fn use_up(&mut self, count: usize)
+        requires { IfSome self.old.left (λ n. count ≤ n) }
+        ensures { self.new ≡ record self.old { left = option_map (λ n. n - count) self.old.left } }
     {
-        match self.left {
-            Some(left) => (left as usize).min(count),
-            None => count,
+        if let Some(left) = self.left {
+            self.left = Some(left - count as u64);
         }
+    }
+
+    // Appends bytes that may all be written.
+    fn write_all(&mut self, alloc: Global, name: &str, bytes: &[u8]) -> Result<(), StoreError>
+        requires { IfSome self.old.left (λ n. length bytes.now ≤ n) }
+        ensures appends { Appends name.now bytes.now (files_in self.old) (files_in self.new)
+            (solids_in self.old) (solids_in self.new) result }
+        ensures left { OnOk result
+            (self.new.left ≡ option_map (λ n. n - length bytes.now) self.old.left) }
+        ensures time { Goes self.old self.new }
+        ensures present { result ≢ Err StoreError.Missing }
+        ensures sure { result ≢ Err StoreError.Failed }
+        ensures known { Learns name.now (names_in self.old) (names_in self.new) result }
+        ensures calls { self.new.calls ≡ self.old.calls }
+        ensures faults { self.new.faults ≡ self.old.faults }
+    {
+        self.inner.append(alloc, name, bytes)?;
+        self.use_up(bytes.len());
+        Ok(())
+    }
+
+    // Appends so many of the bytes, and stops.
+    fn write_part(
+        &mut self,
+        alloc: Global,
+        name: &str,
+        bytes: &[u8],
+        count: usize,
+    ) -> Result<(), StoreError>
+        requires { count ≤ length bytes.now }
+        ensures appends { Appends name.now bytes.now (files_in self.old) (files_in self.new)
+            (solids_in self.old) (solids_in self.new) result }
+        ensures left { IsErrOf result StoreError.Failed → self.new.left ≡ Some 0 }
+        ensures part { IsErrOf result StoreError.Failed → bytes_in (files_in self.new name.now)
+            ≡ bytes_in (files_in self.old name.now) ++ take count bytes.now }
+        ensures fails { IsErr result }
+        ensures time { Goes self.old self.new }
+        ensures present { result ≢ Err StoreError.Missing }
+        ensures known { Learns name.now (names_in self.old) (names_in self.new) result }
+        ensures calls { self.new.calls ≡ self.old.calls }
+        ensures cause { HasCause Failed self.old.faults self.new.faults result }
+    {
+        self.inner.append(alloc, name, &bytes[..count])?;
+        self.left = Some(0);
+        count_fault(&mut self.faults);
+        Err(StoreError::Failed)
     }
 }
 
@@ -169,16 +215,12 @@ impl Store for MemStore {
         ensures known { Learns name.now (names_in self.old) (names_in self.new) result }
     {
         self.begin()?;
-        let count = self.room_for(bytes.len());
-        self.inner.append(alloc, name, &bytes[..count])?;
-        if let Some(left) = self.left {
-            self.left = Some(left - count as u64);
+        match self.left {
+            Some(left) if (left as usize) < bytes.len() => {
+                self.write_part(alloc, name, bytes, left as usize)
+            }
+            _ => self.write_all(alloc, name, bytes),
         }
-        if count < bytes.len() {
-            count_fault(&mut self.faults);
-            return Err(StoreError::Failed);
-        }
-        Ok(())
     }
 
     fn sync(&mut self, alloc: Global, name: &str) -> Result<(), StoreError>
