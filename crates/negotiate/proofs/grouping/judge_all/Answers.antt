@@ -1,5 +1,6 @@
-use Rattle.std.proofs.Common.{arith}
-use Rattle.negotiate.proofs.Judged.{judged_none, judged_yes, judged_no}
+use Rattle.std.proofs.Common.{length, ap, arith}
+use Rattle.negotiate.proofs.Judged.{judged_none, judged_yes, judged_no, judged_all}
+use Rattle.matchmaker.specs.declared.snapshot.Offer.{Offer}
 use Rattle.negotiate.proofs.grouping.judge_all.Goals as goal
 use Rattle.negotiate.proofs.grouping.judge_all.Goals.{in-Some+in_ok-push, in_default}
 
@@ -21,3 +22,15 @@ loop-slot-preserved g c = record {
   ];
   cost = let a = c.kept_now.ensures.cost in let b = c.loop-slot.invariant.cost in omega arith;
 }
+
+pub returns-clause-kept : goal.returns-clause-kept
+returns-clause-kept g c =
+    judged_all c.args.snapshot.now.now c.as_slice-slots.result.now c.args.snapshot.now.slots c.args.made.now c.args.request.now c.loop-slot.slot-index c.loop-slot.list.items
+    c.loop-slot-test.false c.as_slice-slots.ensures c.loop-slot.invariant.list
+
+pub returns-clause-cost : goal.returns-clause-cost
+returns-clause-cost g c =
+    let whole = ap (length {A = Offer}) c.as_slice-slots.ensures in
+    let within = c.loop-slot.auto.slot-index-end in
+    let cost = c.loop-slot.invariant.cost in
+    omega arith
