@@ -1,6 +1,8 @@
 -- Calls of a store, one after the other.
 use Rattle.std.proofs.Common.{◌≡◌, ◌⊎◌, inl, inr, ⊎_elim, ℕ, zero, suc, ◌+◌, ◌-◌, ◌≤◌, min, List, [], ◌∷◌, ◌++◌, length, take, refl, ap, sym, ◌∙◌, subst, arith, append_assoc, length-append}
-use Rattle.pool_outer.specs.Files.{Contents, Images, Lengths, IsImage, Leaves, Elapses, bytes_in}
+use Rattle.std.specs.Prelude.{Result}
+use Rattle.pool_outer.specs.declared.store.StoreError.{StoreError}
+use Rattle.pool_outer.specs.Files.{Contents, Images, Lengths, IsImage, Leaves, Elapses, SameFiles, Syncs, bytes_in}
 use Rattle.queue_log.specs.Moments.{IsReached, KeepsFile, LeavesOnly}
 
 module _ {D : Type 0} (moment : D → ℕ) (left_since : D → Images) (name : List ℕ) where
@@ -100,6 +102,14 @@ module _ {D : Type 0} (file : D → Contents) (solid : D → Lengths) (moment : 
         (λ image left. leaves_fewer (file old) (file new) (solid old) (solid new) name image same le left);
   }
 
+  pub keeps_same : (old new : D) → ((image : List ℕ) → left_since old name (moment old) image → Leaves (file old) (solid old) name image) → SameFiles (file old) (file new) (solid old) (solid new)
+      → Elapses (moment old) (moment new) (left_since old) (left_since new) (file new) (solid new) → KeepsFile file solid moment left_since name old new
+  keeps_same old new only same time = keeps_call old new only (same name).0 (let e = (same name).1 in omega arith) time
+
+  pub keeps_sync : {T : Type 0} (old new : D) (r : Result T StoreError) → ((image : List ℕ) → left_since old name (moment old) image → Leaves (file old) (solid old) name image)
+      → Syncs name (file old) (file new) (solid old) (solid new) r → Elapses (moment old) (moment new) (left_since old) (left_since new) (file new) (solid new) → KeepsFile file solid moment left_since name old new
+  keeps_sync old new r only s time = keeps_call old new only s.same s.no_less time
+
   -- no call
   pub keeps_none : (old : D) → ((image : List ℕ) → left_since old name (moment old) image → Leaves (file old) (solid old) name image) → KeepsFile file solid moment left_since name old old
   keeps_none old only = record { same = refl; no_less = omega arith; quiet = begins moment left_since name old (λ image. Leaves (file old) (solid old) name image) only }
@@ -116,3 +126,20 @@ module _ {D : Type 0} (file : D → Contents) (solid : D → Lengths) (moment : 
             (weaker moment left_since name mid new (λ image. Leaves (file mid) (solid mid) name image) (λ image. Leaves (file old) (solid old) name image) b.quiet
             (λ image left. leaves_fewer (file old) (file mid) (solid old) (solid mid) name image a.same a.no_less left));
       }
+
+  -- what is left before or after, where the file is kept
+  pub kept_either : (old new : D) → KeepsFile file solid moment left_since name old new
+      → LeavesOnly moment left_since name old new (λ image. Leaves (file old) (solid old) name image ⊎ Leaves (file new) (solid new) name image)
+  kept_either old new k = weaker moment left_since name old new (λ image. Leaves (file old) (solid old) name image) (λ image. Leaves (file old) (solid old) name image ⊎ Leaves (file new) (solid new) name image) k.quiet (λ image left. inl left)
+
+  -- and where it is changed behind that
+  pub changed_behind : (old mid new : D) → KeepsFile file solid moment left_since name old mid → LeavesOnly moment left_since name mid new (λ image. Leaves (file mid) (solid mid) name image ⊎ Leaves (file new) (solid new) name image)
+      → LeavesOnly moment left_since name old new (λ image. Leaves (file old) (solid old) name image ⊎ Leaves (file new) (solid new) name image)
+  changed_behind old mid new k l =
+      joins moment left_since name old mid new (λ image. Leaves (file old) (solid old) name image ⊎ Leaves (file new) (solid new) name image)
+      (weaker moment left_since name old mid (λ image. Leaves (file old) (solid old) name image) (λ image. Leaves (file old) (solid old) name image ⊎ Leaves (file new) (solid new) name image) k.quiet (λ image left. inl left))
+      (weaker moment left_since name mid new (λ image. Leaves (file mid) (solid mid) name image ⊎ Leaves (file new) (solid new) name image) (λ image. Leaves (file old) (solid old) name image ⊎ Leaves (file new) (solid new) name image) l by)
+    where
+      by : (image : List ℕ) → Leaves (file mid) (solid mid) name image ⊎ Leaves (file new) (solid new) name image → Leaves (file old) (solid old) name image ⊎ Leaves (file new) (solid new) name image
+      by image (inl left) = inl (leaves_fewer (file old) (file mid) (solid old) (solid mid) name image k.same k.no_less left)
+      by image (inr left) = inr left

@@ -1,6 +1,7 @@
 -- What a log begins with.
 use Rattle.std.proofs.Common.{◌≡◌, ℕ, ◌<◌, ◌≤◌, ◌^◌, true, Bool, List, [], ◌∷◌, ◌++◌, length, take, Option, Some, None, refl, ap, sym, ◌∙◌, subst, arith}
-use Rattle.pool_outer.specs.Files.{IsImage}
+use Rattle.pool_outer.specs.Files.{IsImage, bytes_in}
+use Rattle.receipt_roll.specs.declared.roll.TheConstants.{MAX_ITEMS}
 use Rattle.pool_outer.specs.declared.limit.Which.TheVariants.{Machines, Slots, Jobs, Attributes, LogLine, Input, Bytes, Roll, Events, Users, Boots}
 use Rattle.queue_tx.specs.Queues.{KeyedAds}
 use Rattle.queue_record.specs.declared.error.RecordError.{RecordError}
@@ -122,19 +123,21 @@ read_refused tells bytes before now (Limit w) h = absurd h
 read_refused tells bytes before now Disk h = h
 read_refused tells bytes before now Memory h = tt
 
--- the same of a longer run
-pub recover_refused : (tells : Bool) (bytes : List ℕ) (before before' now : ℕ) (e : LogError) → before' ≤ before → IsRecoverRefused tells bytes before now e → IsRecoverRefused tells bytes before' now e
-recover_refused tells bytes before before' now (BadRecord n) le h = h
-recover_refused tells bytes before before' now Disk le h = omega arith
-recover_refused tells bytes before before' now Memory le h = tt
-recover_refused tells bytes before before' now (Limit Roll) le h = h
-recover_refused tells bytes before before' now (Limit Machines) le h = h
-recover_refused tells bytes before before' now (Limit Slots) le h = h
-recover_refused tells bytes before before' now (Limit Jobs) le h = h
-recover_refused tells bytes before before' now (Limit Attributes) le h = h
-recover_refused tells bytes before before' now (Limit LogLine) le h = h
-recover_refused tells bytes before before' now (Limit Input) le h = h
-recover_refused tells bytes before before' now (Limit Bytes) le h = h
-recover_refused tells bytes before before' now (Limit Events) le h = h
-recover_refused tells bytes before before' now (Limit Users) le h = h
-recover_refused tells bytes before before' now (Limit Boots) le h = h
+-- the same of a longer run, whose store tells as much and whose file is the same
+pub recover_refused : (tells tells' : Bool) (file file' : Option (List ℕ)) (before before' now : ℕ) (e : LogError) → tells' ≡ tells → (tells ≡ true → file' ≡ file) → before ≤ before'
+    → IsRecoverRefused tells' (bytes_in file') before' now e → IsRecoverRefused tells (bytes_in file) before now e
+recover_refused tells tells' file file' before before' now (BadRecord n) told same le h = λ t. subst (λ f. bad_line (bytes_in f) ≡ Some n) (same t) (h (told ∙ t))
+recover_refused tells tells' file file' before before' now (Limit Roll) told same le h =
+    λ t. subst (λ f. (bad_line (bytes_in f) ≡ None) × (MAX_ITEMS < length (fed start (bytes_in f)).list)) (same t) (h (told ∙ t))
+recover_refused tells tells' file file' before before' now Disk told same le h = omega arith
+recover_refused tells tells' file file' before before' now Memory told same le h = tt
+recover_refused tells tells' file file' before before' now (Limit Machines) told same le h = h
+recover_refused tells tells' file file' before before' now (Limit Slots) told same le h = h
+recover_refused tells tells' file file' before before' now (Limit Jobs) told same le h = h
+recover_refused tells tells' file file' before before' now (Limit Attributes) told same le h = h
+recover_refused tells tells' file file' before before' now (Limit LogLine) told same le h = h
+recover_refused tells tells' file file' before before' now (Limit Input) told same le h = h
+recover_refused tells tells' file file' before before' now (Limit Bytes) told same le h = h
+recover_refused tells tells' file file' before before' now (Limit Events) told same le h = h
+recover_refused tells tells' file file' before before' now (Limit Users) told same le h = h
+recover_refused tells tells' file file' before before' now (Limit Boots) told same le h = h

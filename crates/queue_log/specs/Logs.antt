@@ -15,7 +15,7 @@ use Rattle.queue_log.specs.declared.error.LogError.{LogError}
 use Rattle.queue_log.specs.declared.error.LogError.TheVariants.{BadRecord, Limit, Disk, Memory}
 use Rattle.queue_log.specs.declared.log.Halt.{Halt}
 use Rattle.queue_log.specs.declared.recover.Opening.{Opening}
-use Rattle.queue_log.specs.NewLog.{new_log_text, opening_of}
+use Rattle.queue_log.specs.NewLog.{new_log_text, new_log_tx, opening_of}
 use Rattle.queue_log.specs.Stands.{Stands, StandsAs, IsBeforeOrAfter, IsSettled, bad_line}
 
 -- a log as its callers see it
@@ -144,6 +144,13 @@ IsUncut (b ∷ old) new reading = new ≡ b ∷ old
 abbrev pub recovered_store : {D : Type 0} → Result (LogValue D) (D × LogError) → D
 recovered_store (Ok log) = log.store
 recovered_store (Err p) = p.0
+
+-- what a log begins with that is begun at a reading
+pub record IsBegun (reading : ℕ) (opening : Opening) : Type 0 where
+  pub settled : IsSettled (new_log_tx ∷ []) opening.logged.queue (new_log_text reading)
+  pub stamped : (fed start (new_log_text reading)).sequence ≡ 1
+  pub listed : opening.logged.list ≡ new_log_tx ∷ []
+  pub sequenced : opening.sequence ≡ 1
 
 -- the same of what a log begins with, whose file is then whole
 pub record IsOpened (old new : List ℕ) (solid reading : ℕ) (opening : Opening) : Type 0 where

@@ -24,11 +24,19 @@ use std::alloc::Global;
 use std::marker::Model;
 
 /// What a log answers once an append has failed.
-#[derive(Drop)]
 pub struct Halt {
     pub(crate) error: LogError,
     /// The transaction that was not acknowledged. The file may have it, or a prefix of its text.
     pub(crate) pending: Tx,
+}
+
+impl Drop for Halt {
+    fn drop(self) {
+        let Halt {
+            error: _,
+            pending: _pending,
+        } = self;
+    }
 }
 
 /// A queue log in a file of a store. Contracts see it as a `LogValue`.

@@ -15,26 +15,74 @@ use std::alloc::Global;
 use std::marker::Model;
 
 /// What a log has logged: the transactions, and the queue that they build.
-#[derive(Drop)]
 pub(crate) struct Logged {
     roll: Roll<Tx>,
     queue: Queue,
 }
 
+impl Drop for Logged {
+    fn drop(self) {
+        let Logged {
+            roll: _roll,
+            queue: _queue,
+        } = self;
+    }
+}
+
 /// What a transaction takes to be logged, with the memory for it.
-#[derive(Drop)]
 pub(crate) struct Ready {
     pub(crate) text: Text,
     pub(crate) copy: Tx,
     pub(crate) changes: Prepared,
 }
 
+impl Drop for Ready {
+    fn drop(self) {
+        let Ready {
+            text: _text,
+            copy: _copy,
+            changes: _changes,
+        } = self;
+    }
+}
+
+impl Ready {
+    fn into_parts(self) -> (Tx, Prepared)
+        ensures { result ≡ (self.copy, self.changes) }
+    {
+        let Ready {
+            text: _text,
+            copy,
+            changes,
+        } = self;
+        (copy, changes)
+    }
+}
+
 /// A transaction that was read beyond the roll, twice, and the queue with it done.
-#[derive(Drop)]
 pub(crate) struct More {
     pub(crate) tx: Tx,
     pub(crate) copy: Tx,
     pub(crate) queue: Queue,
+}
+
+impl Drop for More {
+    fn drop(self) {
+        let More {
+            tx: _tx,
+            copy: _copy,
+            queue: _queue,
+        } = self;
+    }
+}
+
+impl More {
+    fn into_parts(self) -> (Tx, Tx, Queue)
+        ensures { result ≡ (self.tx, self.copy, self.queue) }
+    {
+        let More { tx, copy, queue } = self;
+        (tx, copy, queue)
+    }
 }
 
 impl Model for Logged {
@@ -136,7 +184,7 @@ impl Logged {
         ensures queue { queue_after self.old.queue tx ≡ Ok self.new.queue }
         ensures mark { self.new.mark ≡ self.old.mark }
     {
-        let Ready { copy, changes, .. } = ready;
+        let (copy, changes) = ready.into_parts();
         self.queue.commit(changes);
         self.roll.append(tx, copy).unwrap()
     }
@@ -197,7 +245,7 @@ impl Logged {
         ensures queue { self.new.queue ≡ more.queue }
         ensures mark { self.new.mark ≡ self.old.mark }
     {
-        let More { tx, copy, queue } = more;
+        let (tx, copy, queue) = more.into_parts();
         self.queue = queue;
         self.roll.append(tx, copy).unwrap()
     }

@@ -26,11 +26,29 @@ pub(crate) const HEADER_KIND: &str = "Job";
 pub(crate) const HEADER_OTHER: &str = "Machine";
 
 /// A log's text, with its transaction and the queue that this builds.
-#[derive(Drop)]
 pub(crate) struct NewLog {
     pub(crate) text: String,
     pub(crate) list: TxList,
     pub(crate) queue: Queue,
+}
+
+impl Drop for NewLog {
+    fn drop(self) {
+        let NewLog {
+            text: _text,
+            list: _list,
+            queue: _queue,
+        } = self;
+    }
+}
+
+impl NewLog {
+    pub(crate) fn into_parts(self) -> (String, TxList, Queue)
+        ensures { result ≡ (self.text, self.list, self.queue) }
+    {
+        let NewLog { text, list, queue } = self;
+        (text, list, queue)
+    }
 }
 
 // The log that is begun at a reading.

@@ -53,8 +53,10 @@ pub(crate) fn read_log<D: Store>(
         return Err(LogError::from(error));
     }
     let mut reader = Reader::new(alloc);
-    read_pieces(alloc, store, name, size, &mut reader)?;
-    Ok(reader.end())
+    match read_pieces(alloc, store, name, size, &mut reader) {
+        Ok(()) => Ok(reader.end()),
+        Err(error) => Err(error),
+    }
 }
 
 // Reads a file up to that size.
@@ -85,7 +87,9 @@ fn read_pieces<D: Store>(
     ensures told { D.tells store.new ≡ D.tells store.old }
     ensures later { D.faults store.old ≤ D.faults store.new }
 {
-    let mut piece = zeros(alloc, PIECE)?;
+    let Ok(mut piece) = zeros(alloc, PIECE) else {
+        return Err(LogError::Memory);
+    };
     let mut place = 0;
     'pieces: while place < size {
         let count = match read_piece(alloc, store, name, place, &mut piece, reader) {

@@ -111,14 +111,20 @@ fn reread<D: Store>(
         → D.known store.new other ≡ true }
     ensures told { D.tells store.new ≡ D.tells store.old }
 {
-    let (size, read) = read_again(alloc, store, name)?;
+    let (size, read) = match read_again(alloc, store, name) {
+        Ok(again) => again,
+        Err(error) => return Err(error),
+    };
     let ReadLog {
         list,
         queue,
         whole,
         ..
     } = read;
-    let more = logged.beyond(alloc, list, queue)?;
+    let more = match logged.beyond(alloc, list, queue) {
+        Ok(more) => more,
+        Err(error) => return Err(error),
+    };
     match cut_behind(alloc, store, name, size, whole) {
         Ok(()) => Ok(more),
         Err(error) => Err(LogError::from(error)),
@@ -161,6 +167,8 @@ fn read_again<D: Store>(
         Ok(size) => size,
         Err(error) => return Err(LogError::from(error)),
     };
-    let read = read_log(alloc, store, name, size)?;
-    Ok((size, read))
+    match read_log(alloc, store, name, size) {
+        Ok(read) => Ok((size, read)),
+        Err(error) => Err(error),
+    }
 }

@@ -1,10 +1,11 @@
-ghost use Rattle.std.specs.Prelude.{◌≡◌, ◌<◌, ◌≤◌, ℕ, List, true, None, Some, length, IfOk, IfErr, OnOk, OnErr};
+ghost use Rattle.std.specs.Prelude.{◌≡◌, ◌<◌, ◌≤◌, ℕ, List, true, None, Some, length, IfOk, IfErr, OnOk, OnErr, string_bytes};
 ghost use Rattle.std.specs.Option.{option_map};
 ghost use Rattle.pool_outer.specs.declared.clock.TheConstants.{LAST_READING};
 ghost use Rattle.pool_outer.specs.Files.{bytes_in};
 ghost use Rattle.queue_log.specs.Moments.{LeavesOnly};
 ghost use Rattle.queue_log.specs.Logged.{IsLogged, IsTooMany};
-ghost use Rattle.queue_log.specs.Logs.{IsOpened, IsRecovered, IsRecoverRefused, IsUncut, LeavesOpening, StandsForOpening, recovered_store};
+ghost use Rattle.queue_log.specs.NewLog.{new_log_text};
+ghost use Rattle.queue_log.specs.Logs.{IsBegun, IsOpened, IsRecovered, IsRecoverRefused, IsUncut, LeavesOpening, StandsForOpening, recovered_store};
 
 use crate::error::LogError;
 use crate::log::Log;
@@ -19,11 +20,33 @@ use queue_tx::{Queue, TxList};
 use std::alloc::Global;
 
 /// What a log begins with.
-#[derive(Drop)]
 struct Opening {
     name: Text,
     sequence: u64,
     logged: Logged,
+}
+
+impl Drop for Opening {
+    fn drop(self) {
+        let Opening {
+            name: _name,
+            sequence: _,
+            logged: _logged,
+        } = self;
+    }
+}
+
+impl Opening {
+    fn into_parts(self) -> (Text, u64, Logged)
+        ensures { result ≡ (self.name, self.sequence, self.logged) }
+    {
+        let Opening {
+            name,
+            sequence,
+            logged,
+        } = self;
+        (name, sequence, logged)
+    }
 }
 
 impl<D: Store> Log<D> {
@@ -67,11 +90,7 @@ impl<D: Store> Log<D> {
     {
         match begin_or_resume(alloc, &mut store, name, reading) {
             Ok(opening) => {
-                let Opening {
-                    name,
-                    sequence,
-                    logged,
-                } = opening;
+                let (name, sequence, logged) = opening.into_parts();
                 Ok(Log {
                     store,
                     name,
@@ -144,8 +163,14 @@ fn resume<D: Store>(
         queue,
         whole,
         sequence,
-    } = read_log(alloc, store, name, size)?;
-    let opening = opening_of(alloc, name, sequence, list, queue)?;
+    } = match read_log(alloc, store, name, size) {
+        Ok(read) => read,
+        Err(error) => return Err(error),
+    };
+    let opening = match opening_of(alloc, name, sequence, list, queue) {
+        Ok(opening) => opening,
+        Err(error) => return Err(error),
+    };
     match cut_behind(alloc, store, name, size, whole) {
         Ok(()) => Ok(opening),
         Err(error) => Err(LogError::from(error)),
@@ -175,13 +200,29 @@ fn begin<D: Store>(
     ensures known { OnOk result (D.known store.new name.now ≡ true) }
     ensures told { D.tells store.new ≡ D.tells store.old }
 {
-    let new = new_log(alloc, reading)?;
-    let Ok(opening) = opening_of(alloc, name, 1, new.list, new.queue) else {
+    let Ok((text, opening)) = begun(alloc, name, reading) else {
         return Err(LogError::Memory);
     };
-    match append_solid(alloc, store, name, new.text.as_str().as_bytes()) {
+    match append_solid(alloc, store, name, text.as_str().as_bytes()) {
         Ok(()) => Ok(opening),
         Err(error) => Err(LogError::from(error)),
+    }
+}
+
+// The text of a log that is begun at a reading, and what it begins with.
+fn begun(alloc: Global, name: &str, reading: u64) -> Result<(String, Opening), LogError>
+    ensures named { IfOk result (λ r. r.1.name ≡ name.now) }
+    ensures text { IfOk result (λ r. string_bytes r.0 ≡ new_log_text reading) }
+    ensures begun { IfOk result (λ r. IsBegun reading r.1) }
+{
+    let new = match new_log(alloc, reading) {
+        Ok(new) => new,
+        Err(error) => return Err(error),
+    };
+    let (text, list, queue) = new.into_parts();
+    match opening_of(alloc, name, 1, list, queue) {
+        Ok(opening) => Ok((text, opening)),
+        Err(error) => Err(error),
     }
 }
 

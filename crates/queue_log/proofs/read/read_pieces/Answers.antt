@@ -25,46 +25,69 @@ pieces-init g c =
       later = omega arith;
     }
 
-pub returns-in-Err-clause-refused : goal.returns-in-Err-clause-refused
-returns-in-Err-clause-refused g c =
+pub returns-in_default : goal.returns-in_default
+returns-in_default g c =
+    let m = g.D.Store in
+    let old = c.args.store.now in
+    let name = c.args.name.now in
+    record {
+      sound = tt;
+      good = tt;
+      read = λ tells. tt;
+      refused = tt;
+      keeps = λ tells. keeps_none m.file m.solid m.moment m.left_since name old (λ image left. g.met.D.Store.only_now old name image tells left);
+      known = λ other k. k;
+      told = refl;
+      later = omega arith;
+    }
+
+pub returns-in-Err : goal.returns-in-Err
+returns-in-Err g c =
     let m = g.D.Store in
     let old = c.args.store.now in
     let name = c.args.name.now in
     let inv = c.pieces.invariant in
     let mid = c.pieces.store in
-    refusal_on
-    (λ line. m.tells mid ≡ true → MeetsBadLine c.pieces.reader (bytes_in (m.file mid name)) c.pieces.place line)
-    (λ line. m.tells old ≡ true → bad_line (bytes_in (m.file old name)) ≡ Some line)
-    (m.faults mid) (m.faults old) (m.faults c.read_piece.new.store) c.in-Err.error
-    (λ line bad tells. bad_line_met c.pieces.reader (bytes_in (m.file old name)) c.pieces.place line (inv.read tells)
-    (subst (λ f. MeetsBadLine c.pieces.reader (bytes_in f) c.pieces.place line) (inv.keeps tells).same (bad (inv.told ∙ tells))))
-    inv.later c.in-Err.ensures.refused
+    let e = c.read_piece.ensures in
+    record {
+      sound = tt;
+      good = tt;
+      read = λ tells. tt;
+      refused = refusal_on
+          (λ line. m.tells mid ≡ true → MeetsBadLine c.pieces.reader (bytes_in (m.file mid name)) c.pieces.place line)
+          (λ line. m.tells old ≡ true → bad_line (bytes_in (m.file old name)) ≡ Some line)
+          (m.faults mid) (m.faults old) (m.faults c.read_piece.new.store) c.in-Err.error
+          (λ line bad tells. bad_line_met c.pieces.reader (bytes_in (m.file old name)) c.pieces.place line (inv.read tells)
+          (subst (λ f. MeetsBadLine c.pieces.reader (bytes_in f) c.pieces.place line) (inv.keeps tells).same (bad (inv.told ∙ tells))))
+          inv.later c.in-Err.ensures.refused;
+      keeps = λ tells. keeps_both m.file m.solid m.moment m.left_since name old mid c.read_piece.new.store (inv.keeps tells) (e.keeps (inv.told ∙ tells));
+      known = λ other k. e.known other (inv.known other k);
+      told = e.told ∙ inv.told;
+      later = let a = e.later in let b = inv.later in omega arith;
+    }
 
-pub returns-in-Err-clause-keeps : goal.returns-in-Err-clause-keeps
-returns-in-Err-clause-keeps g c tells =
+pub returns-then-count-eq0 : goal.returns-then-count-eq0
+returns-then-count-eq0 g c =
     let m = g.D.Store in
-    let inv = c.pieces.invariant in
-    keeps_both m.file m.solid m.moment m.left_since c.args.name.now c.args.store.now c.pieces.store c.read_piece.new.store (inv.keeps tells) (c.read_piece.ensures.keeps (inv.told ∙ tells))
-
-pub returns-then-count-eq0-clause-sound : goal.returns-then-count-eq0-clause-sound
-returns-then-count-eq0-clause-sound g c =
-    subst IsSound (sym c.in-Ok.ensures.read) (sound_fed c.pieces.reader (take c.in-Ok.count c.read_piece.new.piece) c.pieces.invariant.sound)
-
-pub returns-then-count-eq0-clause-read : goal.returns-then-count-eq0-clause-read
-returns-then-count-eq0-clause-read g c tells =
-    let m = g.D.Store in
+    let old = c.args.store.now in
     let name = c.args.name.now in
     let inv = c.pieces.invariant in
-    let size = size_of (m.file c.args.store.now name) c.args.size (c.requires.size tells) in
-    let same = ap (λ f. length (bytes_in f)) (inv.keeps tells).same in
-    let some = c.in-Ok.ensures.goes_on (inv.told ∙ tells) (omega arith) in
-    absurd (omega arith)
-
-pub returns-then-count-eq0-clause-keeps : goal.returns-then-count-eq0-clause-keeps
-returns-then-count-eq0-clause-keeps g c tells =
-    let m = g.D.Store in
-    let inv = c.pieces.invariant in
-    keeps_both m.file m.solid m.moment m.left_since c.args.name.now c.args.store.now c.pieces.store c.read_piece.new.store (inv.keeps tells) (c.read_piece.ensures.keeps (inv.told ∙ tells))
+    let mid = c.pieces.store in
+    let e = c.in-Ok-read_piece.ensures in
+    record {
+      sound = subst IsSound (sym e.read) (sound_fed c.pieces.reader (take c.in-Ok-read_piece.count c.read_piece.new.piece) inv.sound);
+      good = e.good;
+      read = λ tells.
+          let size = size_of (m.file old name) c.args.size (c.requires.size tells) in
+          let same = ap (λ f. length (bytes_in f)) (inv.keeps tells).same in
+          let some = e.goes_on (inv.told ∙ tells) (omega arith) in
+          absurd (omega arith);
+      refused = tt;
+      keeps = λ tells. keeps_both m.file m.solid m.moment m.left_since name old mid c.read_piece.new.store (inv.keeps tells) (e.keeps (inv.told ∙ tells));
+      known = λ other k. e.known other (inv.known other k);
+      told = e.told ∙ inv.told;
+      later = let a = e.later in let b = inv.later in omega arith;
+    }
 
 pub pieces-preserved : goal.pieces-preserved
 pieces-preserved g c =
@@ -73,8 +96,8 @@ pieces-preserved g c =
     let name = c.args.name.now in
     let inv = c.pieces.invariant in
     let mid = c.pieces.store in
-    let e = c.in-Ok.ensures in
-    let n = c.in-Ok.count in
+    let e = c.in-Ok-read_piece.ensures in
+    let n = c.in-Ok-read_piece.count in
     let bytes = bytes_in (m.file old name) in
     let on = λ (tells : m.tells old ≡ true).
     let same = (inv.keeps tells).same in
@@ -95,10 +118,20 @@ pieces-preserved g c =
       later = let a = c.read_piece.ensures.later in let b = inv.later in omega arith;
     }
 
-pub returns-clause-read : goal.returns-clause-read
-returns-clause-read g c tells =
+pub returns : goal.returns
+returns g c =
     let m = g.D.Store in
     let name = c.args.name.now in
     let inv = c.pieces.invariant in
-    let size = size_of (m.file c.args.store.now name) c.args.size (c.requires.size tells) in
-    reads_all c.pieces.reader (bytes_in (m.file c.args.store.now name)) c.pieces.place (inv.read tells) (omega arith)
+    record {
+      sound = inv.sound;
+      good = inv.good;
+      read = λ tells.
+          let size = size_of (m.file c.args.store.now name) c.args.size (c.requires.size tells) in
+          reads_all c.pieces.reader (bytes_in (m.file c.args.store.now name)) c.pieces.place (inv.read tells) (omega arith);
+      refused = tt;
+      keeps = inv.keeps;
+      known = inv.known;
+      told = inv.told;
+      later = inv.later;
+    }

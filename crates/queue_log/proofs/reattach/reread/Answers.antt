@@ -1,8 +1,11 @@
-use Rattle.std.proofs.Common.{◌≡◌, ◌∙◌, true, length, take, ap, sym, arith}
+use Rattle.std.proofs.Common.{◌≡◌, ◌∙◌, true, Some, length, take, refl, ap, sym, arith}
 use Rattle.pool_outer.specs.Files.{bytes_in}
+use Rattle.queue_log.proofs.Moments.{changed_behind, kept_either}
 use Rattle.queue_log.proofs.Opened.{whole_within}
 use Rattle.queue_log.proofs.Pieces.{cut_bytes, size_of}
-use Rattle.queue_log.proofs.Reattached.{reread_by}
+use Rattle.queue_log.proofs.Reattached.{beyond_refused, read_refused, reread_by}
+use Rattle.queue_log.proofs.Refusals.{not_missed, store_refused}
+use Rattle.queue_log.specs.Stands.{bad_line}
 use Rattle.queue_log.proofs.reattach.reread.Goals as goal
 
 pub cut_behind-requires-clause-within : goal.cut_behind-requires-clause-within
@@ -11,23 +14,107 @@ cut_behind-requires-clause-within g c tells =
     let old = c.args.store.now in
     let mid = c.read_again.new.store in
     let n = c.args.name.now in
-    let e = c.in_ok-size.ensures in
+    let e = c.in-Ok.ensures in
     let tells' : m.tells old ≡ true = sym e.told ∙ tells in
-    let size : c.in_ok-size.size ≡ length (bytes_in (m.file mid n)) = size_of (m.file mid n) c.in_ok-size.size (e.size tells') in
+    let size : c.in-Ok.again.0 ≡ length (bytes_in (m.file mid n)) = size_of (m.file mid n) c.in-Ok.again.0 (e.size tells') in
     let same = ap (λ f. length (bytes_in f)) (e.keeps tells').same in
-    let within = whole_within (bytes_in (m.file old n)) (e.small tells') c.in_ok-size.read (e.read tells') in
+    let within = whole_within (bytes_in (m.file old n)) (e.small tells') c.in-Ok.again.1 (e.read tells') in
     omega (arith, within, size, same)
 
-pub returns-in-Ok-clause-reread : goal.returns-in-Ok-clause-reread
-returns-in-Ok-clause-reread g c tells =
+pub returns-in-Err : goal.returns-in-Err
+returns-in-Err g c =
+    let m = g.D.Store in
+    let old = c.args.store.now in
+    let new = c.read_again.new.store in
+    let n = c.args.name.now in
+    let e = c.read_again.ensures in
+    record {
+      reread = λ tells. tt;
+      next = tt;
+      refused = read_refused (m.tells old) (bytes_in (m.file old n)) c.args.logged.now.list (m.faults old) (m.faults new) c.in-Err.error c.in-Err.ensures.refused;
+      list = refl;
+      queue = refl;
+      mark = refl;
+      same = λ tells. (e.keeps tells).same;
+      no_less = λ tells. (e.keeps tells).no_less;
+      any_moment = λ tells. kept_either m.file m.solid m.moment m.left_since n old new (e.keeps tells);
+      known = e.known;
+      told = e.told;
+    }
+
+pub returns-in-Err-beyond : goal.returns-in-Err-beyond
+returns-in-Err-beyond g c =
+    let m = g.D.Store in
+    let old = c.args.store.now in
+    let new = c.read_again.new.store in
+    let n = c.args.name.now in
+    let e = c.in-Ok.ensures in
+    let b = c.in-Err-beyond.ensures in
+    record {
+      reread = λ tells. tt;
+      next = tt;
+      refused = beyond_refused (m.tells old) (bytes_in (m.file old n)) c.args.logged.now.list c.in-Ok.again.1 (m.faults old) (m.faults new) c.in-Err-beyond.error e.read b.refused;
+      list = b.list;
+      queue = b.queue;
+      mark = b.mark;
+      same = λ tells. (e.keeps tells).same;
+      no_less = λ tells. (e.keeps tells).no_less;
+      any_moment = λ tells. kept_either m.file m.solid m.moment m.left_since n old new (e.keeps tells);
+      known = e.known;
+      told = e.told;
+    }
+
+pub returns-in-Ok-cut_behind : goal.returns-in-Ok-cut_behind
+returns-in-Ok-cut_behind g c =
     let m = g.D.Store in
     let old = c.args.store.now in
     let mid = c.read_again.new.store in
     let new = c.cut_behind.new.store in
     let n = c.args.name.now in
-    let log = c.in_ok-size.read in
-    let e = c.in_ok-size.ensures in
-    let tells' : m.tells mid ≡ true = e.told ∙ tells in
-    let cut : bytes_in (m.file new n) ≡ take log.whole (bytes_in (m.file mid n)) = cut_bytes log.whole (m.file mid n) (m.file new n) (c.in-Ok.ensures.cut tells') in
-    let is : bytes_in (m.file new n) ≡ take log.whole (bytes_in (m.file old n)) = cut ∙ ap (λ f. take log.whole (bytes_in f)) (e.keeps tells).same in
-    reread_by c.args.logged.now.list (bytes_in (m.file old n)) (bytes_in (m.file new n)) (m.solid new n) log c.in_ok-more.more (e.small tells) (e.read tells) c.in_ok-more.ensures.beyond is (c.in-Ok.ensures.solid tells')
+    let log = c.in-Ok.again.1 in
+    let e = c.in-Ok.ensures in
+    let b = c.in-Ok-beyond.ensures in
+    let cut = c.in-Ok-cut_behind.ensures in
+    record {
+      reread = λ tells.
+          let is = cut_bytes log.whole (m.file mid n) (m.file new n) (cut.cut (e.told ∙ tells)) ∙ ap (λ f. take log.whole (bytes_in f)) (e.keeps tells).same in
+          reread_by c.args.logged.now.list (bytes_in (m.file old n)) (bytes_in (m.file new n)) (m.solid new n) log c.in-Ok-beyond.more (e.small tells) (e.read tells) b.beyond is (cut.solid (e.told ∙ tells));
+      next = b.next;
+      refused = tt;
+      list = b.list;
+      queue = b.queue;
+      mark = b.mark;
+      same = λ tells. tt;
+      no_less = λ tells. tt;
+      any_moment = λ tells. changed_behind m.file m.solid m.moment m.left_since n old mid new (e.keeps tells) (cut.any_moment (e.told ∙ tells));
+      known = λ other k. cut.known other (e.known other k);
+      told = cut.told ∙ e.told;
+    }
+
+pub returns-in-Err-cut_behind : goal.returns-in-Err-cut_behind
+returns-in-Err-cut_behind g c =
+    let m = g.D.Store in
+    let old = c.args.store.now in
+    let mid = c.read_again.new.store in
+    let new = c.cut_behind.new.store in
+    let n = c.args.name.now in
+    let bytes = bytes_in (m.file old n) in
+    let e = c.in-Ok.ensures in
+    let b = c.in-Ok-beyond.ensures in
+    let cut = c.in-Err-cut_behind.ensures in
+    let error = c.in-Err-cut_behind.error in
+    record {
+      reread = λ tells. tt;
+      next = tt;
+      refused = read_refused (m.tells old) bytes c.args.logged.now.list (m.faults old) (m.faults new) c.from.result
+          (store_refused (λ line. m.tells old ≡ true → bad_line bytes ≡ Some line) (m.faults mid) (m.faults old) (m.faults new) error c.from.result e.later c.from.ensures
+          (not_missed (m.tells mid) (m.file mid) (m.known mid) n error (e.known n c.requires) cut.missing) cut.cause);
+      list = b.list;
+      queue = b.queue;
+      mark = b.mark;
+      same = λ tells. (cut.refused (e.told ∙ tells) n).0 ∙ (e.keeps tells).same;
+      no_less = λ tells. (let a = (cut.refused (e.told ∙ tells) n).1 in let k = (e.keeps tells).no_less in omega arith);
+      any_moment = λ tells. changed_behind m.file m.solid m.moment m.left_since n old mid new (e.keeps tells) (cut.any_moment (e.told ∙ tells));
+      known = λ other k. cut.known other (e.known other k);
+      told = cut.told ∙ e.told;
+    }

@@ -1,10 +1,11 @@
-use Rattle.std.proofs.Common.{◌≡◌, ◌∙◌, ◌<◌, ◌^◌, inl, inr, true, length, take, sym, ap, arith}
+use Rattle.std.proofs.Common.{◌≡◌, ◌∙◌, ◌<◌, ◌^◌, inl, inr, true, Some, length, take, sym, ap, arith}
 use Rattle.pool_outer.specs.Files.{bytes_in}
 use Rattle.queue_log.proofs.Moments.{leaves_fewer}
-use Rattle.queue_log.proofs.Opened.{image_after, opened_by, whole_within}
+use Rattle.queue_log.proofs.Opened.{image_after, opened_by, read_refused, too_many, whole_within}
 use Rattle.queue_log.proofs.Pieces.{cut_bytes, size_of}
 use Rattle.queue_log.proofs.Recovery.{behind_cut, kept_opening, stands_as}
-use Rattle.queue_log.proofs.Results.{at_err}
+use Rattle.queue_log.proofs.Refusals.{not_missed, store_refused}
+use Rattle.queue_log.specs.Stands.{bad_line}
 use Rattle.queue_log.proofs.recover.resume.Goals as goal
 
 pub cut_behind-requires-clause-within : goal.cut_behind-requires-clause-within
@@ -16,76 +17,94 @@ cut_behind-requires-clause-within g c tells =
     let bytes = bytes_in (m.file old n) in
     let size : c.args.size ≡ length bytes = size_of (m.file old n) c.args.size (c.requires.size tells') in
     let small : length bytes < 2 ^ 64 = omega (arith, size, c.ranges.size.fits) in
-    let within = whole_within bytes small c.in_ok-list.field-0 (c.in_ok-list.ensures.read tells') in
+    let within = whole_within bytes small c.in-Ok.read (c.in-Ok.ensures.read tells') in
     omega (arith, within, size)
 
-pub returns-in-Ok-clause-opened : goal.returns-in-Ok-clause-opened
-returns-in-Ok-clause-opened g c tells reading =
+pub returns-in-Err : goal.returns-in-Err
+returns-in-Err g c =
+    let m = g.D.Store in
+    let old = c.args.store.now in
+    let new = c.read_log.new.store in
+    let n = c.args.name.now in
+    let e = c.read_log.ensures in
+    record {
+      named = tt;
+      opened = λ tells. tt;
+      refused = read_refused (m.tells old) (bytes_in (m.file old n)) (m.faults old) (m.faults new) c.in-Err.error c.in-Err.ensures.refused;
+      uncut = λ tells. ap bytes_in (e.keeps tells).same;
+      any_moment = λ tells reading. kept_opening m.file m.solid m.moment m.left_since n reading old new (e.keeps tells);
+      known = e.known;
+      told = e.told;
+    }
+
+pub returns-in-Err-opening_of : goal.returns-in-Err-opening_of
+returns-in-Err-opening_of g c =
+    let m = g.D.Store in
+    let old = c.args.store.now in
+    let new = c.read_log.new.store in
+    let n = c.args.name.now in
+    let e = c.read_log.ensures in
+    record {
+      named = tt;
+      opened = λ tells. tt;
+      refused = too_many (m.tells old) (bytes_in (m.file old n)) c.in-Ok.read (m.faults old) (m.faults new) c.in-Err-opening_of.error c.in-Ok.ensures.read c.in-Err-opening_of.ensures.refused;
+      uncut = λ tells. ap bytes_in (e.keeps tells).same;
+      any_moment = λ tells reading. kept_opening m.file m.solid m.moment m.left_since n reading old new (e.keeps tells);
+      known = e.known;
+      told = e.told;
+    }
+
+pub returns-in-Ok-cut_behind : goal.returns-in-Ok-cut_behind
+returns-in-Ok-cut_behind g c =
     let m = g.D.Store in
     let old = c.args.store.now in
     let mid = c.read_log.new.store in
     let new = c.cut_behind.new.store in
     let n = c.args.name.now in
-    let log = c.in_ok-list.field-0 in
+    let log = c.in-Ok.read in
     let bytes = bytes_in (m.file old n) in
-    let size : c.args.size ≡ length bytes = size_of (m.file old n) c.args.size (c.requires.size tells) in
-    let small : length bytes < 2 ^ 64 = omega (arith, size, c.ranges.size.fits) in
-    let some : 0 < length bytes = omega (arith, size, c.requires.some) in
-    let tells' : m.tells mid ≡ true = c.read_log.ensures.told ∙ tells in
-    let cut : bytes_in (m.file new n) ≡ take log.whole (bytes_in (m.file mid n)) = cut_bytes log.whole (m.file mid n) (m.file new n) (c.in-Ok.ensures.cut tells') in
-    let is : bytes_in (m.file new n) ≡ take log.whole bytes = cut ∙ ap (λ f. take log.whole (bytes_in f)) (c.read_log.ensures.keeps tells).same in
-    let o = c.in_ok-opening.ensures.opening in
-    opened_by bytes small log (c.in_ok-list.ensures.read tells) (bytes_in (m.file new n)) (m.solid new n) reading c.in_ok-opening.opening some is (c.in-Ok.ensures.solid tells') o.2 o.3 o.1
+    let e = c.in-Ok.ensures in
+    let cut = c.in-Ok-cut_behind.ensures in
+    let o = c.in-Ok-opening_of.ensures.opening in
+    let size = λ (tells : m.tells old ≡ true). size_of (m.file old n) c.args.size (c.requires.size tells) in
+    let small = λ (tells : m.tells old ≡ true). (let long = size tells in let fits : length bytes < 2 ^ 64 = omega (arith, long, c.ranges.size.fits) in fits) in
+    let is = λ (tells : m.tells old ≡ true). cut_bytes log.whole (m.file mid n) (m.file new n) (cut.cut (e.told ∙ tells)) ∙ ap (λ f. take log.whole (bytes_in f)) (e.keeps tells).same in
+    record {
+      named = o.0;
+      opened = λ tells reading.
+          let some : 0 < length bytes = (let long = size tells in omega (arith, long, c.requires.some)) in
+          opened_by bytes (small tells) log (e.read tells) (bytes_in (m.file new n)) (m.solid new n) reading c.in-Ok-opening_of.opening some (is tells) (cut.solid (e.told ∙ tells)) o.2 o.3 o.1;
+      refused = tt;
+      uncut = λ tells. tt;
+      any_moment = λ tells reading. behind_cut m.file m.solid m.moment m.left_since n reading old mid new (e.keeps tells) (cut.any_moment (e.told ∙ tells))
+          (λ image left. inr (inl (stands_as bytes image (e.read tells).good (image_after bytes (small tells) log (e.read tells) (bytes_in (m.file new n)) image (m.solid new n) (is tells) (cut.solid (e.told ∙ tells)) left))));
+      known = λ other k. cut.known other (e.known other k);
+      told = cut.told ∙ e.told;
+    }
 
-pub returns-in_err-list-clause-any_moment : goal.returns-in_err-list-clause-any_moment
-returns-in_err-list-clause-any_moment g c tells reading =
-    let m = g.D.Store in
-    kept_opening m.file m.solid m.moment m.left_since c.args.name.now reading c.args.store.now c.read_log.new.store (c.read_log.ensures.keeps tells)
-
-pub returns-in_err-opening-clause-any_moment : goal.returns-in_err-opening-clause-any_moment
-returns-in_err-opening-clause-any_moment g c tells reading =
-    let m = g.D.Store in
-    kept_opening m.file m.solid m.moment m.left_since c.args.name.now reading c.args.store.now c.read_log.new.store (c.read_log.ensures.keeps tells)
-
-pub returns-in-Ok-clause-any_moment : goal.returns-in-Ok-clause-any_moment
-returns-in-Ok-clause-any_moment g c tells reading =
+pub returns-in-Err-cut_behind : goal.returns-in-Err-cut_behind
+returns-in-Err-cut_behind g c =
     let m = g.D.Store in
     let old = c.args.store.now in
     let mid = c.read_log.new.store in
     let new = c.cut_behind.new.store in
     let n = c.args.name.now in
-    let log = c.in_ok-list.field-0 in
     let bytes = bytes_in (m.file old n) in
-    let read = c.in_ok-list.ensures.read tells in
-    let keeps = c.read_log.ensures.keeps tells in
-    let size : c.args.size ≡ length bytes = size_of (m.file old n) c.args.size (c.requires.size tells) in
-    let small : length bytes < 2 ^ 64 = omega (arith, size, c.ranges.size.fits) in
-    let tells' : m.tells mid ≡ true = c.read_log.ensures.told ∙ tells in
-    let cut : bytes_in (m.file new n) ≡ take log.whole (bytes_in (m.file mid n)) = cut_bytes log.whole (m.file mid n) (m.file new n) (c.in-Ok.ensures.cut tells') in
-    let is : bytes_in (m.file new n) ≡ take log.whole bytes = cut ∙ ap (λ f. take log.whole (bytes_in f)) keeps.same in
-    behind_cut m.file m.solid m.moment m.left_since n reading old mid new keeps (c.cut_behind.ensures.any_moment tells')
-    (λ image left. inr (inl (stands_as bytes image read.good (image_after bytes small log read (bytes_in (m.file new n)) image (m.solid new n) is (c.in-Ok.ensures.solid tells') left))))
-
-pub returns-in-Err-clause-any_moment : goal.returns-in-Err-clause-any_moment
-returns-in-Err-clause-any_moment g c tells reading =
-    let m = g.D.Store in
-    let old = c.args.store.now in
-    let mid = c.read_log.new.store in
-    let new = c.cut_behind.new.store in
-    let n = c.args.name.now in
-    let keeps = c.read_log.ensures.keeps tells in
-    let tells' : m.tells mid ≡ true = c.read_log.ensures.told ∙ tells in
-    let same = c.in-Err.ensures.refused tells' n in
-    behind_cut m.file m.solid m.moment m.left_since n reading old mid new keeps (c.cut_behind.ensures.any_moment tells')
-    (λ image left. inl (leaves_fewer (m.file old) (m.file new) (m.solid old) (m.solid new) n image (same.0 ∙ keeps.same) (let a = same.1 in let b = keeps.no_less in omega arith) left))
-
-pub returns-in_err-list-clause-uncut : goal.returns-in_err-list-clause-uncut
-returns-in_err-list-clause-uncut g c tells = at_err c.from_residual.result (ap bytes_in (c.read_log.ensures.keeps tells).same)
-
-pub returns-in_err-opening-clause-uncut : goal.returns-in_err-opening-clause-uncut
-returns-in_err-opening-clause-uncut g c tells = at_err c.from_residual-in_err-opening.result (ap bytes_in (c.read_log.ensures.keeps tells).same)
-
-pub returns-in-Err-clause-uncut : goal.returns-in-Err-clause-uncut
-returns-in-Err-clause-uncut g c tells =
-    let tells' = c.read_log.ensures.told ∙ tells in
-    ap bytes_in ((c.in-Err.ensures.refused tells' c.args.name.now).0 ∙ (c.read_log.ensures.keeps tells).same)
+    let e = c.in-Ok.ensures in
+    let cut = c.in-Err-cut_behind.ensures in
+    let error = c.in-Err-cut_behind.error in
+    record {
+      named = tt;
+      opened = λ tells. tt;
+      refused = read_refused (m.tells old) bytes (m.faults old) (m.faults new) c.from.result
+          (store_refused (λ line. m.tells old ≡ true → bad_line bytes ≡ Some line) (m.faults mid) (m.faults old) (m.faults new) error c.from.result e.later c.from.ensures
+          (not_missed (m.tells mid) (m.file mid) (m.known mid) n error (e.known n c.requires.known) cut.missing) cut.cause);
+      uncut = λ tells. ap bytes_in ((cut.refused (e.told ∙ tells) n).0 ∙ (e.keeps tells).same);
+      any_moment = λ tells reading.
+          let keeps = e.keeps tells in
+          let same = cut.refused (e.told ∙ tells) n in
+          behind_cut m.file m.solid m.moment m.left_since n reading old mid new keeps (cut.any_moment (e.told ∙ tells))
+          (λ image left. inl (leaves_fewer (m.file old) (m.file new) (m.solid old) (m.solid new) n image (same.0 ∙ keeps.same) (let a = same.1 in let b = keeps.no_less in omega arith) left));
+      known = λ other k. cut.known other (e.known other k);
+      told = cut.told ∙ e.told;
+    }

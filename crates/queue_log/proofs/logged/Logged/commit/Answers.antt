@@ -1,4 +1,4 @@
-use Rattle.std.proofs.Common.{◌≡◌, ◌++◌, ◌∷◌, [], Ok, OnOk, sym, subst}
+use Rattle.std.proofs.Common.{◌≡◌, ◌++◌, ◌∷◌, [], Ok, OnOk, ap, sym, subst}
 use Rattle.queue_tx.specs.Queues.{queue_after, with_changes}
 use Rattle.queue_record.proofs.LogLemmas.{applies_push}
 use Rattle.queue_log.specs.Logged.{IsLogged}
@@ -19,4 +19,7 @@ invariant_of-self c =
       builds = applies_push me.roll.list tx me.queue (with_changes me.queue c.args.ready.changes) inv.builds done;
       writable = writable_after me.queue (with_changes me.queue c.args.ready.changes) tx inv.writable (printed_puts tx c.requires.printable r.fits) done;
     } in
-    rw (list, c.commit.ensures) both
+    let changes : c.into_parts-copy.result.1 ≡ c.args.ready.changes = ap (λ p. p.1) c.into_parts-copy.ensures in
+    let taken : IsLogged (me.roll.list ++ tx ∷ []) (with_changes me.queue c.into_parts-copy.result.1) =
+    subst (λ z. IsLogged (me.roll.list ++ tx ∷ []) (with_changes me.queue z)) (sym changes) both in
+    rw (list, c.commit.ensures) taken
