@@ -4,7 +4,8 @@ ghost use Rattle.std.specs.Prelude.{◌≡◌, ◌++◌, ◌∷◌, [], Ok, IfOk
 ghost use Rattle.ad_value.specs.Writing.{AddsText};
 ghost use Rattle.ad_rows.specs.Rows.{integer_literal};
 ghost use Rattle.queue_tx.specs.declared.key.Key.TheVariants.{Header};
-ghost use Rattle.queue_tx.specs.Operations.{set_attr};
+ghost use Rattle.queue_tx.specs.Operations.{new_ad, set_attr};
+ghost use Rattle.queue_log.specs.declared.new_log.TheConstants.{HEADER_KIND, HEADER_OTHER};
 ghost use Rattle.queue_tx.specs.Queues.{queue_after};
 ghost use Rattle.queue_record.specs.ReadSoFar.{start, fed};
 ghost use Rattle.queue_record.specs.Texts.{AreTexts, first_long};
@@ -85,19 +86,38 @@ fn queue_of(alloc: Global, tx: &Tx) -> Result<Queue, Memory>
 }
 
 // The header's ad, with the numbers of the first cluster and the first run.
-#[tactic(auto, unfolding(crate::specs::NewLog::new_log_tx))]
 fn new_log_tx(alloc: Global) -> Result<Tx, Memory>
     ensures { IfOk result (λ tx. tx ≡ new_log_tx) }
 {
     let mut tx = Tx::new(alloc);
+    match say_new_log(alloc, &mut tx) {
+        Ok(()) => Ok(tx),
+        Err(error) => Err(error),
+    }
+}
+
+#[tactic(auto, unfolding(crate::specs::NewLog::new_log_tx))]
+fn say_new_log(alloc: Global, tx: &mut Tx) -> Result<(), Memory>
+    requires { tx.old ≡ [] }
+    ensures { OnOk result (tx.new ≡ new_log_tx) }
+{
+    say_header(alloc, tx)?;
+    set_one(alloc, tx, NEXT_CLUSTER_NUM)?;
+    set_one(alloc, tx, NEXT_RUN_NUM)
+}
+
+fn say_header(alloc: Global, tx: &mut Tx) -> Result<(), Memory>
+    ensures { OnOk result
+        (tx.new ≡ tx.old ++ new_ad Header HEADER_KIND.now HEADER_OTHER.now ∷ []) }
+{
+    let kind = Text::from_str(alloc, HEADER_KIND)?;
+    let other = Text::from_str(alloc, HEADER_OTHER)?;
     tx.push(Op::NewAd {
         key: Key::Header,
-        kind: Text::from_str(alloc, HEADER_KIND)?,
-        other: Text::from_str(alloc, HEADER_OTHER)?,
+        kind,
+        other,
     })?;
-    set_one(alloc, &mut tx, NEXT_CLUSTER_NUM)?;
-    set_one(alloc, &mut tx, NEXT_RUN_NUM)?;
-    Ok(tx)
+    Ok(())
 }
 
 fn set_one(alloc: Global, tx: &mut Tx, name: &str) -> Result<(), Memory>

@@ -83,3 +83,35 @@ returns-clause-durable g c tells image left =
     let whole : IsWhole (me.logged.list ++ tx ∷ []) after (bytes_in (m.file new n')) (m.solid new n') = c.in_default-write_tx.ensures.whole tells' me.logged.list me.logged.queue after w done in
     rw (c.commit.ensures.list, c.prepare.ensures.list)
     (log_image None (me.logged.list ++ tx ∷ []) after (bytes_in (m.file new n')) image (m.solid new n') whole (subst (λ z. Leaves (m.file new) (m.solid new) z image) (sym named) left))
+
+not_halted : (halt : Option Halt) (h : Halt) → halt ≡ None → halt ≡ Some h → ⊥
+not_halted halt h none some = let clash : None ≡ Some h = sym none ∙ some in cc clash
+
+pub returns-in_err-ready-clause-halted : goal.returns-in_err-ready-clause-halted
+returns-in_err-ready-clause-halted g c halt is = absurd (not_halted c.args.self.now.halt halt (sym (ap (λ v. v.halt) c.self.view_is) ∙ c.in_default.is) is)
+
+pub returns-in-Err-clause-halted : goal.returns-in-Err-clause-halted
+returns-in-Err-clause-halted g c halt is = absurd (not_halted c.args.self.now.halt halt (sym (ap (λ v. v.halt) c.self.view_is) ∙ c.in_default.is) is)
+
+pub returns-clause-halted : goal.returns-clause-halted
+returns-clause-halted g c halt is = absurd (not_halted c.args.self.now.halt halt (sym (ap (λ v. v.halt) c.self.view_is) ∙ c.in_default.is) is)
+
+pub returns-in-Err-clause-told : goal.returns-in-Err-clause-told
+returns-in-Err-clause-told g c = c.write_tx.ensures.told ∙ ap (λ v. g.D.Store.tells v.store) c.self.view_is
+
+pub returns-clause-told : goal.returns-clause-told
+returns-clause-told g c = c.write_tx.ensures.told ∙ ap (λ v. g.D.Store.tells v.store) c.self.view_is
+
+pub returns-clause-appended : goal.returns-clause-appended
+returns-clause-appended g c =
+    let view = c.self.view_is in
+    let tx = c.args.tx in
+    let kept = c.prepare.ensures in
+    let done = c.commit.ensures in
+    record {
+      listed = done.list ∙ ap (λ (l : List (List Operation)). l ++ tx ∷ []) (kept.list ∙ ap (λ v. v.list) view);
+      queued = ap (λ (q : KeyedAds). queue_after q tx) (sym (kept.queue ∙ ap (λ v. v.queue) view)) ∙ done.queue;
+      same_roll = done.mark ∙ kept.mark ∙ ap (λ v. v.mark) view;
+      same_file = (ap (λ v. v.name) view, ap (λ v. v.sequence) view);
+      goes_on = c.in_default.is;
+    }
