@@ -1,3 +1,7 @@
+pub mod Prepared
+pub mod PreparedRows
+pub mod FoundJobs
+pub mod LooksTaken
 pub mod Places
 pub mod AdChanges
 pub mod QueueChanges

@@ -1,4 +1,5 @@
 pub mod Rows
+pub mod Prepared
 pub mod Ticks
 pub mod Checks
 pub mod Logging

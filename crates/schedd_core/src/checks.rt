@@ -43,7 +43,6 @@ pub fn check(
 }
 
 /// `check` but for its `commit`: takes the memory, and changes nothing.
-#[tactic(auto, unfolding(crate::specs::Checks::after_check))]
 pub fn prepare_check(
     schedd: &Schedd,
     alloc: Global,

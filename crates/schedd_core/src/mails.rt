@@ -1,12 +1,13 @@
 // What a mail makes of a schedd.
 
-ghost use Rattle.std.specs.Prelude.{◌≡◌, ◌∷◌, [], IfOk, OnErr};
+ghost use Rattle.std.specs.Prelude.{◌≡◌, IfOk, OnErr};
 ghost use Rattle.pool_mail.specs.declared.mail.Mail.TheVariants as of_mail;
 ghost use Rattle.queue_tx.specs.Queues.{ad_at};
 ghost use Rattle.queue_tx.specs.declared.key.Key.TheVariants.{Proc};
 ghost use Rattle.schedd_plan.specs.KeptClaims.{with_stage};
 ghost use Rattle.schedd_state.specs.PreparedSchedds.{CanPut, HasClaimRoom, IsRoomFor, claims_after, schedd_after};
-ghost use Rattle.schedd_state.specs.Schedds.{nothing_done, says};
+ghost use Rattle.schedd_state.specs.Schedds.{nothing_done};
+ghost use Rattle.schedd_core.specs.Prepared.{IsPrepared, sends};
 ghost use Rattle.schedd_core.specs.Rows.{stage_known, run_known, mail_row, seen_row, gone_row, ended_row, noted, asked_in, after_row, after_mail};
 
 use ad_value::{Copied, Memory};
@@ -164,7 +165,6 @@ fn ended_row(
     })
 }
 
-#[tactic(auto, unfolding(crate::specs::Rows::after_row))]
 fn take_row(
     schedd: &Schedd,
     alloc: Global,
@@ -172,11 +172,8 @@ fn take_row(
     row: MailRow,
     reading: u64,
 ) -> Result<PreparedSchedd, Memory>
-    ensures schedd { IfOk result (λ p. schedd_after p schedd.now
-        ≡ (after_row schedd.now queue.now row reading).schedd) }
-    ensures step { IfOk result (λ p. p.step
-        ≡ (after_row schedd.now queue.now row reading).step) }
-    ensures room { IfOk result (λ p. HasClaimRoom p schedd.now) }
+    ensures { IfOk result (λ p. IsPrepared schedd.now p
+        (after_row schedd.now queue.now row reading)) }
 {
     match row {
         MailRow::Nothing => Ok(schedd.nothing(alloc)),
@@ -233,28 +230,27 @@ fn ask(
     by_priority: bool,
     reading: u64,
 ) -> Result<PreparedSchedd, Memory>
-    ensures schedd { IfOk result (λ p. schedd_after p schedd.now ≡ (asked_in
-        (ad_at (Proc job) queue.now) schedd.now claim job by_priority reading).schedd) }
-    ensures step { IfOk result (λ p. p.step ≡ (asked_in
-        (ad_at (Proc job) queue.now) schedd.now claim job by_priority reading).step) }
-    ensures room { IfOk result (λ p. HasClaimRoom p schedd.now) }
+    ensures { IfOk result (λ p. IsPrepared schedd.now p (asked_in
+        (ad_at (Proc job) queue.now) schedd.now claim job by_priority reading)) }
 {
     let Some(ad) = ad_of(queue, job) else {
         return Ok(schedd.nothing(alloc));
     };
+    let request = request_ad(alloc, ad)?;
+    let own = ad.copy(alloc)?;
+    let room = claim_room(schedd, alloc)?;
     let asked = Mail::Ask {
         claim,
         job,
-        ad: request_ad(alloc, ad)?,
+        ad: request,
         by_priority,
     };
     let kept = KeptClaim {
         claim,
         job,
         stage: Stage::Asked { at: reading },
-        ad: ad.copy(alloc)?,
+        ad: own,
     };
-    let room = claim_room(schedd, alloc)?;
     schedd.send(alloc, ClaimsChange::Put { claim: kept, room }, asked)
 }
 
@@ -277,10 +273,8 @@ pub(crate) fn release(
     claim: ClaimNo,
 ) -> Result<PreparedSchedd, Memory>
     requires { CanPut claims schedd.now.claims }
-    ensures schedd { IfOk result (λ p. schedd_after p schedd.now
-        ≡ record schedd.now { claims = claims_after claims schedd.now.claims }) }
-    ensures step { IfOk result (λ p. p.step ≡ says (of_mail.Release claim ∷ [])) }
-    ensures room { IfOk result (λ p. HasClaimRoom p schedd.now) }
+    ensures { IfOk result (λ p. IsPrepared schedd.now p (sends (of_mail.Release claim)
+        (record schedd.now { claims = claims_after claims schedd.now.claims }))) }
 {
     schedd.send(alloc, claims, Mail::Release { claim })
 }

@@ -1,16 +1,20 @@
 // What a tick makes of a schedd.
 
-ghost use Rattle.std.specs.Prelude.{◌≡◌, IfOk, OnErr, slice_get};
+ghost use Rattle.std.specs.Prelude.{◌≡◌, IfOk, OnErr, Some, slice_get};
+ghost use Rattle.std.specs.Option.{option_copied};
 ghost use Rattle.schedd_plan.specs.KeptRuns.{with_run};
 ghost use Rattle.schedd_state.specs.PreparedSchedds.{HasClaimRoom, schedd_after};
-ghost use Rattle.schedd_core.specs.Ticks.{IsSought, IsSoughtBy, IsTicked, after_past, later, after_lengthen, after_grant, after_give_up, after_line};
+ghost use Rattle.schedd_core.specs.Prepared.{IsPrepared};
+ghost use Rattle.schedd_core.specs.Ticks.{IsSought, IsSoughtBy, IsTicked, after_past, later, after_lengthen, after_grant, after_give_up, after_seek, after_line};
 ghost use Rattle.schedd_state.specs.DueLines.{tick_line};
 
 use crate::mails::release;
 use ad_value::Memory;
 use claim_id::JobId;
 use queue_tx::{Key, Queue};
-use schedd_plan::{JobPlan, KeptRun, TickLine, ad_of, add_run, lease_end, lease_until, let_go};
+use schedd_plan::{
+    JobPlan, KeptClaim, KeptRun, TickLine, ad_of, add_run, lease_end, lease_until, let_go,
+};
 use schedd_state::{ClaimsChange, PreparedSchedd, RunsChange, Schedd, ScheddStep, first_free};
 use std::alloc::Global;
 
@@ -62,13 +66,12 @@ fn sought(schedd: &Schedd, queue: &Queue, line: TickLine) -> Option<Key>
 fn sought_by(schedd: &Schedd, queue: &Queue, place: usize) -> Option<Key>
     ensures { IsSoughtBy schedd.now.claims (slice_get schedd.now.claims place) queue.now result }
 {
-    match schedd.claims().get(place) {
+    match claim_at(schedd, place) {
         Some(claim) => first_free(queue, schedd.claims(), &claim.ad),
         None => None,
     }
 }
 
-#[tactic(auto, unfolding(crate::specs::Ticks::after_line))]
 fn take_line(
     schedd: &Schedd,
     alloc: Global,
@@ -77,11 +80,8 @@ fn take_line(
     found: Option<Key>,
     reading: u64,
 ) -> Result<PreparedSchedd, Memory>
-    ensures schedd { IfOk result (λ p. schedd_after p schedd.now
-        ≡ (after_line schedd.now queue.now line found reading).schedd) }
-    ensures step { IfOk result (λ p. p.step
-        ≡ (after_line schedd.now queue.now line found reading).step) }
-    ensures room { IfOk result (λ p. HasClaimRoom p schedd.now) }
+    ensures { IfOk result (λ p. IsPrepared schedd.now p
+        (after_line schedd.now queue.now line found reading)) }
 {
     match line {
         TickLine::Nothing => Ok(schedd.nothing(alloc)),
@@ -90,22 +90,31 @@ fn take_line(
         TickLine::Lengthen { place } => lengthen(schedd, alloc, queue, place, reading),
         TickLine::Regrant { place, job } => grant(schedd, alloc, queue, place, job, reading),
         TickLine::Seek { place } => match found {
-            Some(Key::Proc(job)) => grant(schedd, alloc, queue, place, job, reading),
-            Some(Key::Header) | None => give_up(schedd, alloc, place),
+            Some(key) => grant_found(schedd, alloc, queue, place, key, reading),
+            None => give_up(schedd, alloc, place),
         },
         TickLine::GiveUp { place } => give_up(schedd, alloc, place),
     }
 }
 
+fn claim_at(schedd: &Schedd, place: usize) -> Option<&KeptClaim>
+    ensures { option_copied result ≡ slice_get schedd.now.claims place }
+{
+    schedd.claims().get(place)
+}
+
+fn run_at(schedd: &Schedd, place: usize) -> Option<&KeptRun>
+    ensures { option_copied result ≡ slice_get schedd.now.runs place }
+{
+    schedd.runs().get(place)
+}
+
 // The job of the run of a place is let go, and the claim is leaving.
 fn free_past(schedd: &Schedd, alloc: Global, queue: &Queue, place: usize) -> PreparedSchedd
-    ensures schedd { schedd_after result schedd.now
-        ≡ (after_past schedd.now queue.now place (slice_get schedd.now.runs place)).schedd }
-    ensures step { result.step
-        ≡ (after_past schedd.now queue.now place (slice_get schedd.now.runs place)).step }
-    ensures room { HasClaimRoom result schedd.now }
+    ensures { IsPrepared schedd.now result
+        (after_past schedd.now queue.now place (slice_get schedd.now.runs place)) }
 {
-    let Some(run) = schedd.runs().get(place) else {
+    let Some(run) = run_at(schedd, place) else {
         return schedd.nothing(alloc);
     };
     let claims = ClaimsChange::Leave {
@@ -123,13 +132,10 @@ fn lengthen(
     place: usize,
     reading: u64,
 ) -> Result<PreparedSchedd, Memory>
-    ensures schedd { IfOk result (λ p. schedd_after p schedd.now ≡ (after_lengthen
-        schedd.now queue.now place (slice_get schedd.now.runs place) reading).schedd) }
-    ensures step { IfOk result (λ p. p.step ≡ (after_lengthen
-        schedd.now queue.now place (slice_get schedd.now.runs place) reading).step) }
-    ensures room { IfOk result (λ p. HasClaimRoom p schedd.now) }
+    ensures { IfOk result (λ p. IsPrepared schedd.now p (after_lengthen
+        schedd.now queue.now place (slice_get schedd.now.runs place) reading)) }
 {
-    let Some(run) = schedd.runs().get(place) else {
+    let Some(run) = run_at(schedd, place) else {
         return Ok(schedd.nothing(alloc));
     };
     let job = run.job;
@@ -147,6 +153,24 @@ fn lengthen(
     Ok(schedd.wait_with(alloc, ClaimsChange::Same, runs, plan))
 }
 
+// The claim of a place gets the job that was found for it.
+fn grant_found(
+    schedd: &Schedd,
+    alloc: Global,
+    queue: &Queue,
+    place: usize,
+    key: Key,
+    reading: u64,
+) -> Result<PreparedSchedd, Memory>
+    ensures { IfOk result (λ p. IsPrepared schedd.now p
+        (after_seek schedd.now queue.now place (Some key) reading)) }
+{
+    match key {
+        Key::Proc(job) => grant(schedd, alloc, queue, place, job, reading),
+        Key::Header => give_up(schedd, alloc, place),
+    }
+}
+
 // The claim of a place gets a job.
 fn grant(
     schedd: &Schedd,
@@ -156,13 +180,10 @@ fn grant(
     job: JobId,
     reading: u64,
 ) -> Result<PreparedSchedd, Memory>
-    ensures schedd { IfOk result (λ p. schedd_after p schedd.now ≡ (after_grant schedd.now queue.now
-        place (slice_get schedd.now.claims place) job reading).schedd) }
-    ensures step { IfOk result (λ p. p.step ≡ (after_grant schedd.now queue.now
-        place (slice_get schedd.now.claims place) job reading).step) }
-    ensures room { IfOk result (λ p. HasClaimRoom p schedd.now) }
+    ensures { IfOk result (λ p. IsPrepared schedd.now p (after_grant schedd.now queue.now
+        place (slice_get schedd.now.claims place) job reading)) }
 {
-    let Some(kept) = schedd.claims().get(place) else {
+    let Some(kept) = claim_at(schedd, place) else {
         return Ok(schedd.nothing(alloc));
     };
     let claim = kept.claim;
@@ -202,13 +223,10 @@ fn runs_with(schedd: &Schedd, alloc: Global, run: KeptRun) -> Result<Vec<KeptRun
 
 // The claim of a place is given up.
 fn give_up(schedd: &Schedd, alloc: Global, place: usize) -> Result<PreparedSchedd, Memory>
-    ensures schedd { IfOk result (λ p. schedd_after p schedd.now
-        ≡ (after_give_up schedd.now place (slice_get schedd.now.claims place)).schedd) }
-    ensures step { IfOk result (λ p. p.step
-        ≡ (after_give_up schedd.now place (slice_get schedd.now.claims place)).step) }
-    ensures room { IfOk result (λ p. HasClaimRoom p schedd.now) }
+    ensures { IfOk result (λ p. IsPrepared schedd.now p
+        (after_give_up schedd.now place (slice_get schedd.now.claims place))) }
 {
-    let Some(kept) = schedd.claims().get(place) else {
+    let Some(kept) = claim_at(schedd, place) else {
         return Ok(schedd.nothing(alloc));
     };
     release(schedd, alloc, ClaimsChange::Remove { place }, kept.claim.no)
