@@ -200,7 +200,7 @@ fn begin<D: Store>(
     ensures known { OnOk result (D.known store.new name.now ≡ true) }
     ensures told { D.tells store.new ≡ D.tells store.old }
 {
-    let Ok((text, opening)) = begun(alloc, name, reading) else {
+    let Ok((text, opening)) = new_opening(alloc, name, reading) else {
         return Err(LogError::Memory);
     };
     match append_solid(alloc, store, name, text.as_str().as_bytes()) {
@@ -210,7 +210,7 @@ fn begin<D: Store>(
 }
 
 // The text of a log that is begun at a reading, and what it begins with.
-fn begun(alloc: Global, name: &str, reading: u64) -> Result<(String, Opening), LogError>
+fn new_opening(alloc: Global, name: &str, reading: u64) -> Result<(String, Opening), LogError>
     ensures named { IfOk result (λ r. r.1.name ≡ name.now) }
     ensures text { IfOk result (λ r. string_bytes r.0 ≡ new_log_text reading) }
     ensures begun { IfOk result (λ r. IsBegun reading r.1) }

@@ -1,7 +1,7 @@
 use Rattle.std.proofs.Common.{◌∙◌, [], ◌∷◌, string_bytes, ap, sym, subst}
 use Rattle.queue_log.specs.NewLog.{new_log_text, new_log_tx}
 use Rattle.queue_log.specs.Stands.{IsSettled}
-use Rattle.queue_log.proofs.recover.begun.Goals as goal
+use Rattle.queue_log.proofs.recover.new_opening.Goals as goal
 
 pub returns-in-Ok-opening_of : goal.returns-in-Ok-opening_of
 returns-in-Ok-opening_of c =
