@@ -85,7 +85,10 @@ fn take_line(
 {
     match line {
         TickLine::Nothing => Ok(schedd.nothing(alloc)),
-        TickLine::Left { job } => Ok(schedd.wait_for(alloc, let_go(queue, job))),
+        TickLine::Left { job } => {
+            let prepared = schedd.wait_for(alloc, let_go(queue, job));
+            Ok(prepared)
+        }
         TickLine::Past { place } => Ok(free_past(schedd, alloc, queue, place)),
         TickLine::Lengthen { place } => lengthen(schedd, alloc, queue, place, reading),
         TickLine::Regrant { place, job } => grant(schedd, alloc, queue, place, job, reading),
@@ -209,7 +212,8 @@ fn grant(
         header,
     };
     let claims = ClaimsChange::Job { place, job };
-    Ok(schedd.wait_with(alloc, claims, RunsChange::All(runs), plan))
+    let prepared = schedd.wait_with(alloc, claims, RunsChange::All(runs), plan);
+    Ok(prepared)
 }
 
 // The runs with one more.

@@ -21,9 +21,9 @@ returns-in_default-ad_of c =
 
 pub returns : goal.returns
 returns c =
-    let w = c.wait_with.ensures in
+    let w = c.wait_with-prepared.ensures in
     granted_so c.args.schedd.now c.args.queue.now c.args.place c.in-Some.kept.now c.args.job c.in-Some-ad_of.ad.now c.settings.result.now
-    c.args.reading c.next_run-number.result c.in_ok-until.until c.is_some-header.result c.in_ok-runs.runs.items c.wait_with.result
+    c.args.reading c.next_run-number.result c.in_ok-until.until c.is_some-header.result c.in_ok-runs.runs.items c.wait_with-prepared.result
     w.schedd w.step w.room c.in_ok-runs.ensures c.next_run-number.ensures c.in_ok-until.ensures c.settings.ensures
     (c.is_some-header.ensures ∙ is_some_map _ c.get.result ∙ ap is_some c.get.ensures.ad)
     c.in-Some-ad_of.ensures c.in-Some.ensures

@@ -21,8 +21,8 @@ pub returns-in-Left : goal.returns-in-Left
 unfolding after_line
 returns-in-Left c =
     let v = c.args.schedd.now in
-    let w = c.wait_for.ensures in
-    waits_so v v c.wait_for.result c.let_go.result _ w.schedd w.step w.room
+    let w = c.wait_for-prepared.ensures in
+    waits_so v v c.wait_for-prepared.result c.let_go.result _ w.schedd w.step w.room
     (ap (λ (plan : JobPlan). waits plan v) c.let_go.ensures
     ∙ ap (λ (l : TickLine). after_line v c.args.queue.now l c.args.found c.args.reading) (sym c.in-Left.is))
 
