@@ -4,3 +4,4 @@ pub mod Playing
 pub mod RunLists
 pub mod UserLogs
 pub mod Pieces
+pub mod Results

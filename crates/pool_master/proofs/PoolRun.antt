@@ -1,5 +1,5 @@
 -- What a pool's part of a run leaves: without a pool, and with one that was closed or not.
-use Rattle.std.proofs.Common.{◌≡◌, ◌≢◌, ◌∙◌, ◌⊎◌, inl, inr, ℕ, List, [], ◌∷◌, ◌++◌, length, take, Bool, true, false, Option, Some, None, IfSome, slice_get, refl, sym, ap, subst, arith}
+use Rattle.std.proofs.Common.{◌≡◌, ◌≢◌, ◌∙◌, ◌⊎◌, inl, inr, ℕ, ◌≤◌, Result, Err, List, [], ◌∷◌, ◌++◌, length, take, Bool, true, false, Option, Some, None, IfSome, slice_get, refl, sym, ap, subst, arith}
 use Rattle.std.specs.Option.{option_map}
 use Rattle.std.proofs.lemmas.List.{append-nil}
 use Rattle.pool_outer.specs.Cause.{Rose}
@@ -13,6 +13,8 @@ use Rattle.thin_pool.specs.Moving.{EachMoves}
 use Rattle.thin_pool.specs.Reactions.{opening_pool, pool_after}
 use Rattle.pool_input.specs.declared.status.Status.{Status}
 use Rattle.pool_input.specs.declared.status.Status.TheVariants as status
+use Rattle.pool_input.specs.declared.words.WordsError.{WordsError}
+use Rattle.pool_input.specs.declared.words.WordsError.TheVariants as words_error
 use Rattle.pool_input.specs.Faults.{UnlessFault}
 use Rattle.pool_input.specs.Input.{IsOfFiles, OfFilesFrom, OfInputFrom, IsRefusedByFiles, IsInputRefused}
 use Rattle.pool_input.specs.Words.{IsRun, IsNoRun}
@@ -299,3 +301,37 @@ refusal_named file words config submits s is refused =
 
 pub not_named : (file : Contents) (words : List (List ℕ)) (s : Status) → IsNoRun words → IsInputRefused file words s → ⊥
 not_named file words s none refused = none refused.config refused.submits refused.words_are
+
+-- a run on spawners that were lent, and are the whole again
+pub runs_lent : {P K : Type 0} (allows : ℕ → Type 0) (spawner : P → SpawnerSeen) (lent first now whole : List P) (sink : K → SinkSeen) (o q : K) (status_is : Status) (history : History) → lent ≡ first → whole ≡ now → PoolRuns allows spawner lent now sink o q status_is history → PoolRuns allows spawner first whole sink o q status_is history
+runs_lent {P} allows spawner lent first now whole sink o q status_is history same back runs =
+    subst (λ (l : List P). PoolRuns allows spawner first l sink o q status_is history) (sym back) (subst (λ (l : List P). PoolRuns allows spawner l now sink o q status_is history) same runs)
+
+-- no pool is of any input
+pub of_no_input : (allows : ℕ → Type 0) (file : Contents) (words : List (List ℕ)) (opening : Option PoolValue) (list : List Step) → opening ≡ None → OfInputFrom allows file words opening list
+of_no_input allows file words None list none = tt
+of_no_input allows file words (Some p) list none = cc
+
+-- ---- statuses that are not each other, and counts
+
+pub usage_early : stage_of status.Usage ≢ AfterClose
+usage_early is = cc
+
+pub memory_early : stage_of status.Memory ≢ AfterClose
+memory_early is = cc
+
+pub usage_no_fault : status.Usage ≢ status.DiskFault
+usage_no_fault is = cc
+
+pub memory_no_fault : status.Memory ≢ status.DiskFault
+memory_no_fault is = cc
+
+pub memory_no_usage : status.Memory ≢ status.Usage
+memory_no_usage is = cc
+
+-- words for which there is no memory were not refused
+pub memory_no_words : {A : Type 0} (r : Result A WordsError) (w : WordsError) → r ≡ Err w → w ≡ words_error.Memory → r ≡ Err words_error.Usage → ⊥
+memory_no_words r w is memory usage = cc
+
+pub none_below : {count k : ℕ} → count ≡ 0 → count ≤ k
+none_below none = omega arith
