@@ -1,4 +1,4 @@
-use Rattle.std.proofs.Common.{◌≡◌, ℕ, List, ap, ◌∙◌}
+use Rattle.std.proofs.Common.{◌≡◌, ℕ, Err, List, ap, subst, sym, ◌∙◌}
 use Rattle.schedd_state.specs.PreparedSchedds.{schedd_after}
 use Rattle.pool_mail.specs.declared.mail.Mail.{Mail}
 use Rattle.pool_state.specs.declared.state.PoolState.{PoolState}
@@ -7,9 +7,32 @@ use Rattle.queue_tx.specs.Queues.{with_changes}
 use Rattle.schedd_state.specs.declared.answer.ScheddStep.{ScheddStep}
 use Rattle.schedd_state.specs.Schedds.{ScheddValue}
 use Rattle.pool_rules.specs.Deeds.{posts, rested}
+use Rattle.pool_rules.specs.Limits.{IsWithin}
+use Rattle.pool_tables.specs.declared.refusal.StepError.{StepError}
+use Rattle.pool_tables.specs.declared.refusal.StepError.TheVariants as error
 use Rattle.schedd_steps.specs.Counting.{bytes_planned, logged_by, with_counts}
 use Rattle.pool_steps.proofs.Posting.{posted_all}
+use Rattle.schedd_steps.proofs.Refused.{at_err, limit_passed, no_err, not_done, same_error}
 use Rattle.schedd_steps.proofs.logged.log_plan.Goals as goal
+
+pub returns-clause-within : goal.returns-clause-within
+returns-clause-within c = subst IsWithin (sym c.commit.ensures) c.in_ok-prepared.ensures.limit
+
+pub returns-clause-large : goal.returns-clause-large
+returns-clause-large c = λ is. no_err _ error.Bytes is
+
+pub returns-in_err-prepared : goal.returns-in_err-prepared
+returns-in_err-prepared c =
+    let e = c.in_err-prepared.field-0.0 in
+    let r = c.from_residual.result in
+    let is_e = c.from_residual.ensures.1 in
+    record {
+      pool = not_done _ e r is_e;
+      within = not_done _ e r is_e;
+      large = λ is. c.in_err-prepared.ensures.large (ap (λ (x : StepError). Err x) (same_error e error.Bytes r is_e is));
+      refused = limit_passed e r is_e c.in_err-prepared.ensures.refused;
+      kept = at_err r c.in_err-prepared.ensures.kept;
+    }
 
 pub returns-clause-pool : goal.returns-clause-pool
 returns-clause-pool c =

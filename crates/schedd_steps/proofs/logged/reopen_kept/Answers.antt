@@ -1,16 +1,49 @@
-use Rattle.std.proofs.Common.{rules, ◌≡◌, ℕ, ap, ◌∙◌}
+use Rattle.std.proofs.Common.{◌≡◌, ℕ, Err, ap, refl, subst, sym, ◌∙◌}
 use Rattle.schedd_state.specs.PreparedSchedds.{schedd_after}
 use Rattle.pool_state.specs.declared.state.PoolState.{PoolState}
 use Rattle.queue_tx.specs.Queues.{with_changes}
 use Rattle.schedd_state.specs.Schedds.{ScheddValue}
 use Rattle.pool_rules.specs.Deeds.{at_rest}
+use Rattle.pool_rules.specs.Limits.{IsWithin}
+use Rattle.pool_tables.specs.declared.refusal.StepError.{StepError}
+use Rattle.pool_tables.specs.declared.refusal.StepError.TheVariants as error
 use Rattle.schedd_steps.specs.Counting.{bytes_after, with_counts}
+use Rattle.schedd_steps.proofs.Refused.{at_err, is_limit, limit_passed, no_bytes, no_err, no_ok, not_done, same_error}
 use Rattle.schedd_steps.proofs.UnfinishedDone.{back_too_large, back_with}
 use Rattle.schedd_steps.proofs.logged.reopen_kept.Goals as goal
 
-pub returns-in_err-prepared-clause-large : goal.returns-in_err-prepared-clause-large
-returns-in_err-prepared-clause-large c = λ is.
-    back_too_large c.in_ok-queue.field-0 c.args.state.now.pending c.args.state.now c.args.reading c.in_ok-queue.ensures (search (rules, is))
+pub returns-clause-within : goal.returns-clause-within
+returns-clause-within c = subst IsWithin (sym c.commit.ensures) c.in_ok-prepared.ensures.limit
+
+pub returns-clause-large : goal.returns-clause-large
+returns-clause-large c = λ is. no_err _ error.Bytes is
+
+pub returns-in_err-prepared : goal.returns-in_err-prepared
+returns-in_err-prepared c =
+    let e = c.in_err-prepared.field-0.0 in
+    let r = c.from_residual-in_err-prepared.result in
+    let is_e = c.from_residual-in_err-prepared.ensures.1 in
+    record {
+      back = no_ok _ e r is_e;
+      within = not_done _ e r is_e;
+      large = λ is.
+          back_too_large c.in_ok-queue.field-0 c.args.state.now.pending c.args.state.now c.args.reading c.in_ok-queue.ensures
+          (c.in_err-prepared.ensures.large (ap (λ (x : StepError). Err x) (same_error e error.Bytes r is_e is)));
+      refused = limit_passed e r is_e c.in_err-prepared.ensures.refused;
+      kept = at_err r c.in_err-prepared.ensures.kept;
+    }
+
+pub returns-in_err-queue : goal.returns-in_err-queue
+returns-in_err-queue c =
+    let r = c.from_residual.result in
+    let memory = c.from_residual.ensures.1 in
+    record {
+      back = no_ok _ error.Memory r memory;
+      within = not_done _ error.Memory r memory;
+      large = λ is. no_bytes _ r memory is;
+      refused = is_limit r memory;
+      kept = at_err r refl;
+    }
 
 pub returns-clause-back : goal.returns-clause-back
 returns-clause-back c =

@@ -1,12 +1,79 @@
-use Rattle.std.proofs.Common.{rules, ◌+◌, ◌<◌, subst}
+use Rattle.std.proofs.Common.{◌∙◌, ◌+◌, ◌<◌, ◌≤◌, ℕ, Err, ap, refl, subst, sym}
+use Rattle.pool_parts.specs.Plans.{ordered_job}
 use Rattle.pool_parts.specs.Sizes.{mails_count}
 use Rattle.pool_parts.specs.declared.size.TheConstants.{MAX_BYTES}
+use Rattle.pool_rules.specs.Schedds.{jobs_in}
+use Rattle.pool_tables.specs.declared.refusal.StepError.{StepError}
+use Rattle.pool_tables.specs.declared.refusal.StepError.TheVariants as error
+use Rattle.schedd_core.specs.Checks.{after_check}
+use Rattle.schedd_state.specs.PreparedSchedds.{schedd_after}
 use Rattle.schedd_state.specs.declared.answer.ScheddStep.{ScheddStep}
+use Rattle.schedd_state.specs.declared.prepared.PreparedSchedd.{PreparedSchedd}
+use Rattle.schedd_steps.proofs.Looked.{looked_so}
+use Rattle.schedd_steps.proofs.Refused.{at_err, is_limit, limit_passed, no_bytes, no_err, no_ok, not_done, same_error}
 use Rattle.schedd_steps.proofs.TooLarge.{looks_too_large}
 use Rattle.schedd_steps.proofs.schedd.check.Goals as goal
 
-pub returns-in_err-deed-clause-large : goal.returns-in_err-deed-clause-large
-returns-in_err-deed-clause-large c = λ is.
+pub returns : goal.returns
+returns c =
     let old = c.args.state.now in
-    let above : MAX_BYTES < old.counts.bytes + mails_count c.in_ok-prepared.prepared.step.mails = search (rules, is) in
-    looks_too_large old c.args.job c.args.reading c.show_order.ensures (subst (λ (s : ScheddStep). MAX_BYTES < old.counts.bytes + mails_count s.mails) c.in_ok-prepared.ensures.step above)
+    let t = c.take_deed.new.state in
+    let a = after_check old.schedd old.queue c.args.job c.args.reading in
+    let d = c.in_ok-deed.deed in
+    let e = c.in_ok-prepared.ensures in
+    let same = c.in_ok-deed.ensures.prepared in
+    let taken = c.in_ok-stepped.ensures in
+    record {
+      looked = looked_so old t a (schedd_after d.prepared old.schedd) c.move_mark.new.self d.prepared.step d.ordered c.in_ok-stepped.stepped
+          taken.pool
+          (ap (λ (p : PreparedSchedd). schedd_after p old.schedd) same ∙ e.schedd)
+          (ap (λ (p : PreparedSchedd). p.step) same ∙ e.step)
+          (c.in_ok-deed.ensures.ordered ∙ ap jobs_in (c.ordered_job-ordered.ensures ∙ ap (λ (s : ScheddStep). ordered_job s.plan) (c.step.ensures ∙ e.step)))
+          c.move_mark.ensures.schedd c.move_mark.ensures.passes taken.answer;
+      within = subst (λ (n : ℕ). n ≤ MAX_BYTES) (sym taken.bytes) c.in_ok-deed.ensures.limit;
+      large = λ is. no_err _ error.Bytes is;
+      refused = tt;
+      kept = tt;
+    }
+
+pub returns-in_err-stepped : goal.returns-in_err-stepped
+returns-in_err-stepped c =
+    let r = c.from_residual-in_err-stepped.result in
+    let memory = c.from_residual-in_err-stepped.ensures.1 in
+    record {
+      looked = no_ok _ error.Memory r memory;
+      within = not_done _ error.Memory r memory;
+      large = λ is. no_bytes _ r memory is;
+      refused = is_limit r memory;
+      kept = at_err r c.in_err-stepped.ensures.kept;
+    }
+
+pub returns-in_err-deed : goal.returns-in_err-deed
+returns-in_err-deed c =
+    let old = c.args.state.now in
+    let p = c.in_ok-prepared.prepared in
+    let e = c.in_err-deed.field-0.0 in
+    let r = c.from_residual-in_err-deed.result in
+    let is_e = c.from_residual-in_err-deed.ensures.1 in
+    record {
+      looked = no_ok _ e r is_e;
+      within = not_done _ e r is_e;
+      large = λ is.
+          let above : MAX_BYTES < old.counts.bytes + mails_count p.step.mails =
+          c.in_err-deed.ensures.large (ap (λ (x : StepError). Err x) (same_error e error.Bytes r is_e is)) in
+          looks_too_large old c.args.job c.args.reading c.show_order.ensures (subst (λ (s : ScheddStep). MAX_BYTES < old.counts.bytes + mails_count s.mails) c.in_ok-prepared.ensures.step above);
+      refused = limit_passed e r is_e c.in_err-deed.ensures.refused;
+      kept = at_err r refl;
+    }
+
+pub returns-in_err-prepared : goal.returns-in_err-prepared
+returns-in_err-prepared c =
+    let r = c.from_residual.result in
+    let memory = c.from_residual.ensures.1 in
+    record {
+      looked = no_ok _ error.Memory r memory;
+      within = not_done _ error.Memory r memory;
+      large = λ is. no_bytes _ r memory is;
+      refused = is_limit r memory;
+      kept = at_err r refl;
+    }
