@@ -113,6 +113,23 @@ fn start<R: Processes + Files<File = File>>(
     what: &Launch,
 ) -> io::Result<Child<R::Started>> {
     let mut command = Command::new(alloc, what.program.as_str())?;
+    start_by(rt, alloc, what, &mut command)
+}
+
+// The command is lent, as it is large and each way out of its owner drops it.
+fn start_by<R: Processes + Files<File = File>>(
+    rt: &R,
+    alloc: Global,
+    what: &Launch,
+    command: &mut Command,
+) -> io::Result<Child<R::Started>> {
+    set_words(what, command)?;
+    set_streams(rt, alloc, what, command)?;
+    command.spawn(rt)
+}
+
+// The words and the folder.
+fn set_words(what: &Launch, command: &mut Command) -> io::Result<()> {
     for word in what.words.as_slice() {
         command.arg(word.as_str())?;
     }
@@ -120,17 +137,37 @@ fn start<R: Processes + Files<File = File>>(
     if !folder.is_empty() {
         command.current_dir(folder)?;
     }
+    Ok(())
+}
+
+fn set_streams<R: Files<File = File>>(
+    rt: &R,
+    alloc: Global,
+    what: &Launch,
+    command: &mut Command,
+) -> io::Result<()> {
+    let folder = what.folder.as_str();
     let input = open_file(rt, alloc, folder, what.input.as_str(), Use::Read)?;
-    let output = open_file(rt, alloc, folder, what.output.as_str(), Use::Write)?;
-    // Both in one file write one after the other, as by one handle.
-    let errors = match &output {
-        Some(file) if what.errors.as_str() == what.output.as_str() => Some(file.try_clone()?),
-        _ => open_file(rt, alloc, folder, what.errors.as_str(), Use::Write)?,
-    };
     command.stdin(stream(input));
+    let output = open_file(rt, alloc, folder, what.output.as_str(), Use::Write)?;
+    let errors = open_errors(rt, alloc, what, &output)?;
     command.stdout(stream(output));
     command.stderr(stream(errors));
-    command.spawn(rt)
+    Ok(())
+}
+
+// Output and errors in one file write one after the other, as by one handle.
+fn open_errors<R: Files<File = File>>(
+    rt: &R,
+    alloc: Global,
+    what: &Launch,
+    output: &Option<File>,
+) -> io::Result<Option<File>> {
+    let errors = what.errors.as_str();
+    match output {
+        Some(file) if errors == what.output.as_str() => Ok(Some(file.try_clone()?)),
+        _ => open_file(rt, alloc, what.folder.as_str(), errors, Use::Write),
+    }
 }
 
 #[derive(Clone, Copy)]
