@@ -47,7 +47,7 @@ impl<R: Files + Drop> DiskStore<R> {
     // Room for a name that isn't known yet, and the name.
     fn room_for(&mut self, alloc: Global, name: &str) -> Result<Option<Text>, Memory>
         ensures room { IfOk result (λ new. MatchOption new
-            (is_named self.old.known.items name.now ≡ true)
+            (is_named self.new.known.items name.now ≡ true)
             (λ text. (text ≡ name.now) × (vec_len self.new.known < vec_capacity self.new.known))) }
         ensures known { self.new.known.items ≡ self.old.known.items }
         ensures faults { self.new.faults ≡ self.old.faults }
@@ -62,14 +62,17 @@ impl<R: Files + Drop> DiskStore<R> {
 
     // From now on the file is known to be there.
     #[tactic(auto, using(crate::proofs::Names::pushed_is_named))]
-    fn learn(&mut self, text: Text)
-        requires { vec_len self.old.known < vec_capacity self.old.known }
-        ensures known { is_named self.new.known.items text ≡ true }
+    fn learn(&mut self, name: &str, new: Option<Text>)
+        requires { MatchOption new (is_named self.old.known.items name.now ≡ true)
+            (λ text. (text ≡ name.now) × (vec_len self.old.known < vec_capacity self.old.known)) }
+        ensures known { is_named self.new.known.items name.now ≡ true }
         ensures stays { (n : List ℕ)
             → is_named self.old.known.items n ≡ true → is_named self.new.known.items n ≡ true }
         ensures faults { self.new.faults ≡ self.old.faults }
     {
-        self.known.push(text).unwrap();
+        if let Some(text) = new {
+            self.known.push(text).unwrap();
+        }
     }
 
     // The file isn't known to be there any more.
@@ -140,9 +143,7 @@ impl<R: Files + Drop> Store for DiskStore<R> {
         let new = self.room_for(alloc, name)?;
         match fs::metadata(&self.rt, name) {
             Ok(data) => {
-                if let Some(text) = new {
-                    self.learn(text);
-                }
+                self.learn(name, new);
                 Ok(data.len())
             }
             Err(error) => Err(self.refusal(name, &error)),
@@ -159,9 +160,7 @@ impl<R: Files + Drop> Store for DiskStore<R> {
         let new = self.room_for(alloc, name)?;
         match read_from(&self.rt, name, place, into) {
             Ok(count) => {
-                if let Some(text) = new {
-                    self.learn(text);
-                }
+                self.learn(name, new);
                 Ok(count)
             }
             Err(error) => Err(self.refusal(name, &error)),
@@ -173,9 +172,7 @@ impl<R: Files + Drop> Store for DiskStore<R> {
         let new = self.room_for(alloc, name)?;
         match append_to(&self.rt, alloc, &mut self.last, name, new.is_some(), bytes) {
             Ok(()) => {
-                if let Some(text) = new {
-                    self.learn(text);
-                }
+                self.learn(name, new);
                 Ok(())
             }
             Err(error) => Err(self.failure(&error)),
@@ -186,9 +183,7 @@ impl<R: Files + Drop> Store for DiskStore<R> {
         let new = self.room_for(alloc, name)?;
         match sync_file(&self.rt, alloc, &mut self.last, name) {
             Ok(()) => {
-                if let Some(text) = new {
-                    self.learn(text);
-                }
+                self.learn(name, new);
                 Ok(())
             }
             Err(error) => Err(self.refusal(name, &error)),
@@ -199,9 +194,7 @@ impl<R: Files + Drop> Store for DiskStore<R> {
         let new = self.room_for(alloc, name)?;
         match cut_file(&self.rt, alloc, &mut self.last, name, size) {
             Ok(()) => {
-                if let Some(text) = new {
-                    self.learn(text);
-                }
+                self.learn(name, new);
                 Ok(())
             }
             Err(error) => Err(self.refusal(name, &error)),
@@ -216,9 +209,7 @@ impl<R: Files + Drop> Store for DiskStore<R> {
         }
         match rename_file(&self.rt, from, to) {
             Ok(()) => {
-                if let Some(text) = new {
-                    self.learn(text);
-                }
+                self.learn(to, new);
                 self.forget(from);
                 Ok(())
             }
