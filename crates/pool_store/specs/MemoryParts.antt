@@ -1,6 +1,6 @@
 -- What the stores in memory were prepared with, what they keep, and what a call does to one that
 -- may fail.
-use Rattle.std.specs.Prelude.{◌≡◌, ◌⊎◌, ◌-◌, ◌<◌, ℕ, List, ◌++◌, length, take, Option, Some, Err, Result, IsErrOf, OnOk, is_some}
+use Rattle.std.specs.Prelude.{◌≡◌, ◌⊎◌, ◌+◌, ◌<◌, ℕ, List, ◌++◌, length, take, Option, Some, Err, Result, IsErrOf, OnOk, is_some}
 use Rattle.std.specs.Option.{option_map}
 use Rattle.pool_outer.specs.declared.failing.FailingCalls.{FailingCalls}
 use Rattle.pool_outer.specs.declared.store.StoreError.{StoreError}
@@ -66,7 +66,7 @@ Goes old new =
 -- An append writes as many bytes as are left before the stop, and fails where that isn't all.
 pub record WritesUpTo {T : Type 0}
     (name bytes : List ℕ) (old new : MemStore) (result : Result T StoreError) : Type 0 where
-  pub all : OnOk result (bytes_left new ≡ option_map (λ n. n - length bytes) (bytes_left old))
+  pub all : OnOk result (bytes_left old ≡ option_map (λ n. length bytes + n) (bytes_left new))
   pub stops :
       IsErrOf result Failed → FailsNext old
       ⊎ ((n : ℕ) × ((bytes_left old ≡ Some n) × ((n < length bytes)

@@ -1,10 +1,10 @@
 //! A store in memory that fails and stops where it was told to.
-ghost use Rattle.std.specs.Prelude.{◌≡◌, ◌≢◌, ◌≤◌, ◌-◌, ◌++◌, None, Some, Err, length, take, IfSome, IsErr, IsErrOf, IsOkUnless, IsOkAnd, MatchOption, OnOk};
+ghost use Rattle.std.specs.Prelude.{◌≡◌, ◌≢◌, ◌≤◌, ◌+◌, ◌++◌, None, Some, Err, length, take, IfSome, IsErr, IsErrOf, IsOkUnless, IsOkAnd, MatchOption, OnOk};
 ghost use Rattle.std.specs.Option.{option_map};
 ghost use Rattle.pool_outer.specs.declared.store.StoreError.TheVariants.{Failed};
 ghost use Rattle.pool_outer.specs.Cause.{HasCause};
 ghost use Rattle.pool_outer.specs.Files.{bytes_in, Appends, Syncs, Cuts, Renames, Misses, Learns, Relabels};
-ghost use Rattle.pool_outer.specs.MemoryCalls.{NextFails, one_more};
+ghost use Rattle.pool_outer.specs.MemoryCalls.{one_more};
 ghost use Rattle.pool_store.specs.MemoryFiles.{file_in, size_in, Copies};
 
 use super::file::MemFile;
@@ -88,7 +88,8 @@ impl MemStore {
     // So many of the bytes that were left are written.
     fn use_up(&mut self, count: usize)
         requires { IfSome self.old.left (λ n. count ≤ n) }
-        ensures { self.new ≡ record self.old { left = option_map (λ n. n - count) self.old.left } }
+        ensures kept { self.new ≡ record self.old { left = self.new.left } }
+        ensures left { self.old.left ≡ option_map (λ n. count + n) self.new.left }
     {
         if let Some(left) = self.left {
             self.left = Some(left - count as u64);
@@ -101,7 +102,7 @@ impl MemStore {
         ensures appends { Appends name.now bytes.now (files_in self.old) (files_in self.new)
             (solids_in self.old) (solids_in self.new) result }
         ensures left { OnOk result
-            (self.new.left ≡ option_map (λ n. n - length bytes.now) self.old.left) }
+            (self.old.left ≡ option_map (λ n. length bytes.now + n) self.new.left) }
         ensures time { Goes self.old self.new }
         ensures present { result ≢ Err StoreError.Missing }
         ensures sure { result ≢ Err StoreError.Failed }
@@ -145,7 +146,7 @@ impl MemStore {
 impl Store for MemStore {
     ghost use Rattle.std.specs.Prelude.{true, is_some, length};
     ghost use Rattle.std.proofs.Common.{inl};
-    ghost use Rattle.pool_store.specs.MemoryParts.{files_of, sure_store, store_calls, store_faults, bytes_left, files_in, solids_in, names_in, CountsCall, FailsNext, Goes, WritesUpTo};
+    ghost use Rattle.pool_store.specs.MemoryParts.{files_of, sure_store, store_calls, bytes_left, files_in, solids_in, names_in, CountsCall, FailsNext, Goes, WritesUpTo};
     ghost use Rattle.pool_store.specs.MemoryFiles.{file_in, solid_in};
     ghost use Rattle.pool_store.specs.Past.{LeftSince, only_left_now, solid_fits};
 
