@@ -1,7 +1,7 @@
 // From tokens to a tree: one position that only moves forward.
 
 ghost use Rattle.std.specs.Prelude.{◌≡◌, ◌<◌, ◌≤◌, ◌+◌, IfOk, Ok};
-ghost use Rattle.ad_tree.specs.Tree.{Tree, tree, trees, trees_of, rests, rests_of};
+ghost use Rattle.ad_tree.specs.Tree.{Tree, tree, rests, rests_of};
 ghost use Rattle.ad_parse.specs.Grammar.{IsText};
 ghost use Rattle.ad_parse.specs.Reader.{text_at, choice_at, branches_at, or_else_at, level_at, chain_of, chain_from, prefix_at, primary_at, primary_by, brackets_at, list_at, name_at, call_by, open_at, items_at, items_from};
 ghost use Rattle.ad_parse.specs.Parser.{condition_of, operand_of};

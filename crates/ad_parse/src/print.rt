@@ -11,7 +11,7 @@ ghost use Rattle.ad_parse.specs.Canon.{canon, canon_rests, canon_items, canon_wi
 ghost use Rattle.ad_parse.specs.ExprText.{IsExprText};
 
 use crate::levels::{LOOSEST, level_of, looseness, rests_level};
-use ad_tree::{BinOp, Expr, ExprList, Rest, RestList, Scope, UnOp};
+use ad_tree::{BinOp, Expr, ExprList, RestList, Scope, UnOp};
 use ad_value::{Memory, Text, Value, write_item_separator};
 use std::alloc::Global;
 

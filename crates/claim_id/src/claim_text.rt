@@ -1,4 +1,4 @@
-ghost use Rattle.std.specs.Prelude.{◌≡◌, ◌↔◌, ◌<◌, ◌^◌, ◌++◌, ◌∷◌, ℕ, List, codes, IfOk, IfSome, IsSomeAnd, IsTrue};
+ghost use Rattle.std.specs.Prelude.{◌≡◌, ◌↔◌, ◌<◌, ◌^◌, ◌++◌, ◌∷◌, ℕ, List, IfOk, IfSome, IsSomeAnd, IsTrue};
 ghost use Rattle.claim_id.specs.declared.numbers.ClaimId.{ClaimId};
 ghost use Rattle.claim_id.specs.declared.numbers.ClaimNo.{ClaimNo};
 ghost use Rattle.claim_id.specs.declared.numbers.SlotId.{SlotId};

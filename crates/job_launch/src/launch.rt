@@ -1,4 +1,4 @@
-ghost use Rattle.std.specs.Prelude.{◌≡◌, Bool, IfOk};
+ghost use Rattle.std.specs.Prelude.{◌≡◌, IfOk};
 ghost use Rattle.job_launch.specs.Launches.{launch_of, launch_words, literal_string, words_under};
 
 use ad_tree::{Ad, Expr};

@@ -4,7 +4,7 @@ ghost use Rattle.std.specs.Prelude.{◌≡◌, ◌<◌, ◌≤◌, ◌+◌, leng
 ghost use Rattle.std.specs.Prelude.{[], ◌∷◌};
 ghost use Rattle.line_text.specs.Expansion.{total, IsExpansion, IsRefused};
 ghost use Rattle.line_text.specs.References.{ended, refers, reference_at, stretch_length};
-ghost use Rattle.line_text.specs.UnderWay.{Frame, frame_of, frames, begun_frame, IsSound, IsSoundWith, IsReferenceTo, work_left};
+ghost use Rattle.line_text.specs.UnderWay.{frame_of, frames, begun_frame, IsSound, IsSoundWith, IsReferenceTo, work_left};
 
 use crate::error::MacroError;
 use crate::reference::{Next, cut, reference};

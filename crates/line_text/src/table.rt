@@ -1,9 +1,9 @@
 // Macros: names and their values.
 
-ghost use Rattle.std.specs.Prelude.{◌≡◌, ◌↔◌, ◌<◌, [], length, map, string_bytes, IfOk, IfSome, IsTrue, OnOk, OnErr};
+ghost use Rattle.std.specs.Prelude.{◌≡◌, ◌↔◌, ◌<◌, [], length, string_bytes, IfOk, IfSome, IsTrue, OnOk, OnErr};
 ghost use Rattle.std.specs.Option.{option_map};
 ghost use Rattle.ad_value.specs.Names.{lowercase};
-ghost use Rattle.line_text.specs.Macros.{Macros, macros_of, with_macro, find_macro};
+ghost use Rattle.line_text.specs.Macros.{macros_of, with_macro, find_macro};
 
 use ad_value::{Copied, Memory, Text};
 use indexmap::IndexMap;

@@ -1,6 +1,6 @@
 // Which transactions a log can say.
 
-ghost use Rattle.std.specs.Prelude.{◌≡◌, IsTrue, map};
+ghost use Rattle.std.specs.Prelude.{IsTrue, map};
 ghost use Rattle.ad_tree.specs.Tree.{tree};
 ghost use Rattle.queue_tx.specs.Operations.{operation};
 ghost use Rattle.queue_tx.specs.Printable.{IsPrintable, IsPrintableKey, IsPrintableOp, IsPrintableTree, IsWord};

@@ -2,8 +2,6 @@ use crate::logs::{DiskLog, open_log};
 use crate::submission::next_submission;
 use anyhow::Result;
 use queue_record::print_tx;
-use queue_tx::Tx;
-use std::alloc::Global;
 use std::fs::{File, OpenOptions};
 use std::io::Write;
 use std::time::Instant;

@@ -1,6 +1,6 @@
 //! One request: which slots it may choose among, and which one it gets.
 
-ghost use Rattle.std.specs.Prelude.{◌≡◌, ◌+◌, Some, IfOk, option_copied};
+ghost use Rattle.std.specs.Prelude.{◌≡◌, Some, IfOk, option_copied};
 ghost use Rattle.std.specs.List.{list_any};
 ghost use Rattle.matchmaker.specs.Cycle as cycle;
 ghost use Rattle.matchmaker.specs.Loops as loops;

@@ -1,4 +1,4 @@
-ghost use Rattle.std.specs.Prelude.{◌≡◌, ◌≤◌, ◌↔◌, [], length, filter, IsTrue, IfOk, OnOk, OnErr, IsErrOf, true};
+ghost use Rattle.std.specs.Prelude.{◌≡◌, ◌≤◌, ◌↔◌, [], length, filter, IfOk, OnOk, OnErr, IsErrOf};
 ghost use Rattle.std.specs.List.{list_any};
 ghost use Rattle.matchmaker.specs.declared.error.CollectorError.TheVariants as error;
 ghost use Rattle.matchmaker.specs.Kept.{with_ad, without_slot, fresh_ads, is_fresh, is_of, IsFullFor, IsInOrder};

@@ -1,7 +1,6 @@
 //! Whether a slot is offered to a request, and matches it.
 
 ghost use Rattle.std.specs.Prelude.{◌≡◌, IfOk, ◌+◌};
-ghost use Rattle.ad_tree.specs.Tree.{tree};
 ghost use Rattle.matchmaker.specs.Offers as offers;
 
 use crate::course::Account;

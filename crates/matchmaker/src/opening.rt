@@ -1,6 +1,6 @@
 //! In which order a cycle comes to submitters and requests.
 
-ghost use Rattle.std.specs.Prelude.{◌≡◌, ◌<◌, ◌≤◌, IfOk, OnOk, map, length, [], ℕ};
+ghost use Rattle.std.specs.Prelude.{◌≡◌, ◌<◌, IfOk, OnOk, map, length, []};
 ghost use Rattle.std.specs.List.{All, AllZip};
 ghost use Rattle.std.specs.List.Sorted.{IsPermutation, IsSortedBy};
 ghost use Rattle.std.specs.Ordering.{is_lt};
@@ -15,7 +15,6 @@ use crate::snapshot::{Snapshot, Submitter};
 use ad_eval::eval;
 use ad_value::names::job::{JOB_PRIO, Q_DATE};
 use ad_value::{Copied, Memory, Value};
-use claim_id::JobId;
 use pool_mail::Request;
 use std::alloc::Global;
 use std::cmp::{Ordering, Reverse};

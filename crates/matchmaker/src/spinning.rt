@@ -1,7 +1,7 @@
 //! A spin: its shares, and a turn for each submitter.
 
-ghost use Rattle.std.specs.Prelude.{◌≡◌, ℕ, ◌+◌, ◌*◌, ◌^◌, ◌≤◌, ◌<◌, map, max, length, List, OnOk};
-ghost use Rattle.std.specs.List.{All, count_by, sum_by};
+ghost use Rattle.std.specs.Prelude.{◌≡◌, ◌+◌, ◌*◌, ◌^◌, ◌≤◌, ◌<◌, map, max, length, OnOk};
+ghost use Rattle.std.specs.List.{All, sum_by};
 ghost use Rattle.matchmaker.specs.Cycle as cycle;
 ghost use Rattle.matchmaker.specs.Loops as loops;
 

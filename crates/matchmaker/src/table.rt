@@ -1,5 +1,5 @@
-ghost use Rattle.std.specs.Prelude.{◌≡◌, ◌<◌, ◌↔◌, map, All, IsTrue, OnOk, OnErr, IfSome};
-ghost use Rattle.matchmaker.specs.Accounts.{lookup, with_standing, IsFullFor, IsStanding, standing_after};
+ghost use Rattle.std.specs.Prelude.{◌≡◌, ◌<◌, ◌↔◌, map, IsTrue, OnOk, OnErr, IfSome};
+ghost use Rattle.matchmaker.specs.Accounts.{lookup, with_standing, IsFullFor, IsStanding};
 ghost use Rattle.matchmaker.specs.Tables.{named_users, IsUserTable, entry_after};
 
 use crate::accountant::MAX_USERS;

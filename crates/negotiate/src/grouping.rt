@@ -1,6 +1,6 @@
 //! A turn in which one request of each autocluster is judged: the others use its list.
 
-ghost use Rattle.std.specs.Prelude.{◌≡◌, ℕ, ◌+◌, ◌≤◌, ◌<◌, ◌&&◌, length, map, if◌then◌else◌, Some, None, IfOk, OnOk, get_or, set, List, Vec, option_copied};
+ghost use Rattle.std.specs.Prelude.{◌≡◌, ◌+◌, ◌≤◌, ◌<◌, ◌&&◌, length, map, if◌then◌else◌, Some, None, IfOk, OnOk, get_or, set, Vec, option_copied};
 ghost use Rattle.std.specs.Option.{is_some, option_map};
 ghost use Rattle.std.specs.Global.{Global as TheGlobal};
 ghost use Rattle.negotiate.specs.declared.grouping.Kept.{Kept as AKept};

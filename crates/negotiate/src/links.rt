@@ -1,6 +1,6 @@
 //! Which name leads to which: lists of links.
 
-ghost use Rattle.std.specs.Prelude.{◌≡◌, ◌&&◌, ◌++◌, List, ℕ, IfOk, OnOk, map};
+ghost use Rattle.std.specs.Prelude.{◌≡◌, ◌&&◌, IfOk, OnOk};
 ghost use Rattle.ad_value.specs.Names.{same_name};
 ghost use Rattle.negotiate.specs.Links as links;
 

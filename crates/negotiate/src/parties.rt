@@ -1,6 +1,6 @@
 //! Spins in which one request of each autocluster is judged.
 
-ghost use Rattle.std.specs.Prelude.{◌≡◌, ◌==◌, ◌||◌, ℕ, ◌+◌, ◌*◌, ◌≤◌, ◌<◌, map, length, [], IfOk, OnOk};
+ghost use Rattle.std.specs.Prelude.{◌≡◌, ◌==◌, ◌||◌, ◌+◌, ◌*◌, ◌≤◌, ◌<◌, map, length, [], IfOk, OnOk};
 ghost use Rattle.std.specs.List.{All, sum_by};
 ghost use Rattle.matchmaker.specs.Cycle as cycle;
 ghost use Rattle.matchmaker.specs.Loops as loops;

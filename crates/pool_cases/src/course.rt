@@ -10,7 +10,7 @@ use crate::fields::Fields;
 use crate::open::OpenPool;
 use crate::times::{Kind, Times};
 use cases::{Case, CaseError, read_cases};
-use claim_id::{ClaimId, JobId, Pair, RunNo};
+use claim_id::{ClaimId, Pair, RunNo};
 use pool_mail::{Mail, SlotAd};
 use pool_outer::Daemon;
 use pool_parts::{Answer, Event, Stepped};

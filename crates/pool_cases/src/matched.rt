@@ -1,6 +1,6 @@
 // What is handed in that was judged.
 
-ghost use Rattle.std.specs.Prelude.{◌≡◌, IfOk, length};
+ghost use Rattle.std.specs.Prelude.{IfOk, length};
 ghost use Rattle.pool_cases.specs.Marks.{IsGivenToAny};
 
 use crate::events::read_ads;

@@ -1,6 +1,6 @@
 // Whether a pool may open.
 
-ghost use Rattle.std.specs.Prelude.{◌≡◌, IfOk, IfSome, true};
+ghost use Rattle.std.specs.Prelude.{◌≡◌, IfOk, true};
 ghost use Rattle.pool_cases.specs.Opened.{HasLittle, HasMachineCount, HasMachines};
 ghost use Rattle.pool_state.specs.Openings.{CanOpen};
 ghost use Rattle.queue_tx.specs.Printable.{HasPrintableKeys};

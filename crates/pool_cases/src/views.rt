@@ -1,7 +1,6 @@
 // The abstract pool that a pool stands for.
 
 use crate::refusals::write_slot;
-use ad_value::Memory;
 use cases::CaseError;
 use claim_id::{JobId, SlotId};
 use daemon_texts::{write_claim_no, write_how, write_job, write_run};

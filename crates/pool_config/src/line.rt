@@ -1,7 +1,7 @@
 // Lines `NAME = value`.
 
 ghost use Rattle.std.specs.Prelude.{◌≡◌, ◌<◌};
-ghost use Rattle.std.specs.List.{list_any, list_all, before_first};
+ghost use Rattle.std.specs.List.{list_all};
 ghost use Rattle.std.specs.Option.{option_map};
 ghost use Rattle.ad_token.specs.Names.{is_name_byte};
 ghost use Rattle.pool_config.specs.Names.{cut_at, named, setting_in, is_setting_name, has_blank, head_of};

@@ -1,6 +1,6 @@
 // Users and their numbers, found by their names.
 
-ghost use Rattle.std.specs.Prelude.{◌≡◌, [], IfOk, OnOk, OnErr, string_bytes};
+ghost use Rattle.std.specs.Prelude.{◌≡◌, [], IfOk, OnOk, string_bytes};
 ghost use Rattle.pool_config.specs.Settings.{with_user};
 ghost use Rattle.pool_config.specs.Users.{users_of};
 

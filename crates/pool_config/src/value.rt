@@ -6,7 +6,7 @@ ghost use Rattle.std.specs.Option.{option_map};
 ghost use Rattle.ad_token.specs.Names.{is_name_byte};
 ghost use Rattle.ad_tree.specs.Tree.{tree};
 ghost use Rattle.pool_config.specs.Errors.{Becomes};
-ghost use Rattle.pool_config.specs.Settings.{with_value, number_within, in_bounds, expression_in, is_memory, is_machine_byte, is_machine_name};
+ghost use Rattle.pool_config.specs.Settings.{with_value, number_within, expression_in, is_memory, is_machine_byte, is_machine_name};
 
 use crate::error::ConfigError;
 use ad_parse::{ParseError, parse_expr};

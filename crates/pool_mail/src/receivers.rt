@@ -3,7 +3,7 @@ ghost use Rattle.pool_mail.specs.Mails.{receivers_of, startd_of};
 
 use crate::mail::Mail;
 use crate::matching::Match;
-use claim_id::{ClaimId, ClaimNo, RunNo};
+use claim_id::{ClaimNo, RunNo};
 use pool_outer::Daemon;
 
 impl Mail {

@@ -1,4 +1,4 @@
-ghost use Rattle.std.specs.Prelude.{◌≡◌, ◌≢◌, ◌≤◌, ◌<◌, ◌+◌, ◌++◌, ◌∷◌, [], ℕ, true, false, None, Some, All, length, slice_get, IfOk, OnOk, OnErr, IsTrue, is_ok, ◌↔◌};
+ghost use Rattle.std.specs.Prelude.{◌≡◌, ◌≢◌, ◌≤◌, ◌<◌, ◌+◌, ◌++◌, ◌∷◌, [], ℕ, true, false, None, Some, length, slice_get, IfOk, OnOk, OnErr, IsTrue, is_ok, ◌↔◌};
 ghost use Rattle.pool_outer.specs.Cause.{Rose};
 ghost use Rattle.pool_mail.specs.declared.end.End.TheVariants.{NotStarted};
 ghost use Rattle.thin_pool.specs.declared.answer.Kept.TheVariants as kept;

@@ -1,4 +1,4 @@
-ghost use Rattle.std.specs.Prelude.{◌≡◌, ◌≢◌, ◌≤◌, ◌⊎◌, ◌↔◌, [], ℕ, List, Bool, true, false, None, Some, All, length, slice_get};
+ghost use Rattle.std.specs.Prelude.{◌≡◌, ◌≢◌, ◌≤◌, ◌⊎◌, ◌↔◌, [], ℕ, Bool, true, false, None, Some, All, length};
 ghost use Rattle.pool_outer.specs.Cause.{Rose, RoseBy};
 ghost use Rattle.pool_outer.specs.Files.{SameFiles};
 ghost use Rattle.pool_input.specs.declared.status.Status.{Status};

@@ -1,9 +1,8 @@
-ghost use Rattle.std.specs.Prelude.{◌≡◌, ◌≤◌, ◌<◌, ◌^◌, ◌+◌, ◌++◌, List, ℕ, IfOk, All, length, codes, string_bytes};
+ghost use Rattle.std.specs.Prelude.{◌≡◌, ◌<◌, ◌^◌, ◌+◌, IfOk, string_bytes};
 ghost use Rattle.thin_pool.specs.Events.{reading_of};
-ghost use Rattle.thin_pool.specs.PoolValue.{slot_at};
 ghost use Rattle.thin_pool.specs.Reactions.{takes_number};
 ghost use Rattle.pool_input.specs.Readings.{IsInCalendar, AreReadings};
-ghost use Rattle.pool_master.specs.UserLog.{IsStamp, IsEntry, AreEntries, IsSubmitLines, IsStartLines, IsEndLines, IsLines, ArePrinted, IsUserLog, never_starts, last_cluster_with, name_in, slot_name_at, three_digits, numbers_text, submitted_text, held_text};
+ghost use Rattle.pool_master.specs.UserLog.{IsStamp, IsEntry, AreEntries, IsSubmitLines, IsStartLines, IsEndLines, IsLines, ArePrinted, IsUserLog, never_starts, last_cluster_with, slot_name_at, three_digits, numbers_text};
 
 use ad_tree::AdList;
 use ad_value::{Memory, Text};

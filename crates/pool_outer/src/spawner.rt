@@ -1,4 +1,4 @@
-ghost use Rattle.std.specs.Prelude.{◌≡◌, ◌≢◌, ◌<◌, ◌≤◌, ◌+◌, ◌++◌, ◌∷◌, [], ℕ, List, Bool, true, false, Err, length, IfOk, OnOk, OnErr, MatchResult, is_ok, if◌then◌else◌};
+ghost use Rattle.std.specs.Prelude.{◌≡◌, ◌≢◌, ◌<◌, ◌≤◌, ◌+◌, ◌++◌, ◌∷◌, [], ℕ, List, Bool, true, false, Err, length, IfOk, OnOk, OnErr, is_ok, if◌then◌else◌};
 ghost use Rattle.pool_outer.specs.declared.spawner.SpawnError.TheVariants.{Failed, Memory as NoMemory};
 ghost use Rattle.pool_outer.specs.declared.spawner.ChildState.{ChildState};
 ghost use Rattle.pool_outer.specs.declared.spawner.ChildState.TheVariants.{Running};

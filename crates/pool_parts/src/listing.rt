@@ -1,6 +1,6 @@
 // Jobs of a kind, one after the other.
 
-ghost use Rattle.std.specs.Prelude.{◌≡◌, None, option_map, IfOk};
+ghost use Rattle.std.specs.Prelude.{None, option_map, IfOk};
 ghost use Rattle.queue_tx.specs.Jobs.{FirstKey, IsJobOf};
 ghost use Rattle.queue_tx.specs.declared.key.Key.TheVariants.{Proc};
 ghost use Rattle.pool_parts.specs.Listings.{AreJobs, NextJob};

@@ -2,7 +2,7 @@ ghost use Rattle.std.specs.Prelude.{◌≡◌, ◌+◌, ◌++◌, ◌∷◌, [],
 ghost use Rattle.ad_rows.specs.Rows.{integer_literal};
 ghost use Rattle.ad_tree.specs.Tree.{tree};
 ghost use Rattle.queue_tx.specs.declared.key.Key.TheVariants.{Proc};
-ghost use Rattle.pool_parts.specs.Submissions.{ad_ops, attribute_ops, header_ops, job_numbered, jobs_ops, new_ad_op, next_cluster_op, submission_ops};
+ghost use Rattle.pool_parts.specs.Submissions.{ad_ops, attribute_ops, header_ops, jobs_ops, new_ad_op, next_cluster_op, submission_ops};
 
 use ad_tree::{Ad, Expr};
 use ad_value::{Memory, Text, Value};

@@ -1,6 +1,6 @@
 // The keys under which a transaction changes ads.
 
-ghost use Rattle.std.specs.Prelude.{◌≡◌, ◌||◌, [], false, is_some, map, IfOk, OnOk};
+ghost use Rattle.std.specs.Prelude.{◌≡◌, ◌||◌, [], is_some, map, IfOk, OnOk};
 ghost use Rattle.std.specs.Map.{lookup};
 ghost use Rattle.pool_parts.specs.Growth.{AreDistinct, is_among, is_touched};
 ghost use Rattle.pool_parts.specs.Noted.{AreNoted};

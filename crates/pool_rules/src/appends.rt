@@ -1,6 +1,6 @@
 //! That what is unfinished can be logged.
 
-ghost use Rattle.std.specs.Prelude.{◌≡◌, ℕ, List, Option, Some, None, Ok};
+ghost use Rattle.std.specs.Prelude.{◌≡◌, ℕ, List, Some, None, Ok};
 ghost use Rattle.ad_tree.specs.Ad.{Attributes};
 ghost use Rattle.pool_parts.specs.Appends.{CanAppend};
 ghost use Rattle.pool_parts.specs.Loggable.{AreLoggableJobs, CanBeLogged, HasShortNumbers, IsLoggableQueue, KnowsHeader};

@@ -1,6 +1,6 @@
 //! What the events of startds do to the parts of a pool.
 
-ghost use Rattle.std.specs.Prelude.{◌≡◌, ℕ, [], ◌∷◌, List, max, Option, Some, IfSome, slice_get};
+ghost use Rattle.std.specs.Prelude.{◌≡◌, ℕ, [], ◌∷◌, max, Option, Some, IfSome, slice_get};
 ghost use Rattle.ad_eval.specs.Judgement.{Judgement};
 ghost use Rattle.pool_mail.specs.Mails.{receivers_of};
 ghost use Rattle.pool_mail.specs.declared.end.Ending.{Ending};

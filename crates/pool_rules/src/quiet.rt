@@ -2,7 +2,7 @@
 
 ghost use Rattle.std.specs.Prelude.{◌≡◌, ◌↔◌, IfOk, IsTrue};
 ghost use Rattle.std.specs.Option.{option_copied};
-ghost use Rattle.pool_rules.specs.Judging.{IsOfAll, asked_ads};
+ghost use Rattle.pool_rules.specs.Judging.{IsOfAll};
 ghost use Rattle.pool_rules.specs.Refusals.{IsCloseRefusal, IsIdleRefusal, IsUnquietRefusal, claim_left, down_left, moved, not_quiet, order_left, pending_left, under_left, unquiet_refusal};
 
 use crate::asked::are_asked;

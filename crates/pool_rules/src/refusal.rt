@@ -3,7 +3,7 @@
 ghost use Rattle.std.specs.Prelude.{◌≡◌, ◌∷◌, [], IfOk};
 ghost use Rattle.std.specs.Option.{option_copied};
 ghost use Rattle.pool_outer.specs.declared.gate.Daemon.TheVariants.{Schedd, Startd};
-ghost use Rattle.pool_rules.specs.Refusals.{IsCloseRefusal, IsEventRefusal, IsLoggedRefusal, IsMatchesRefusal, IsReceiveRefusal, IsRefusal, IsReopenRefusal, IsReturnRefusal, busy_refusal, check_refusal, closed_refusal, ended_refusal, events_refusal, first_of, jobs_refusal, matchmaker_refusal, order_refusal, receive_refusal, run_left, run_refusal, schedd_refusal, submit_refusal, tick_refusal, unless_due};
+ghost use Rattle.pool_rules.specs.Refusals.{IsEventRefusal, IsLoggedRefusal, IsMatchesRefusal, IsReceiveRefusal, IsRefusal, IsReopenRefusal, IsReturnRefusal, busy_refusal, check_refusal, closed_refusal, ended_refusal, events_refusal, first_of, jobs_refusal, matchmaker_refusal, order_refusal, receive_refusal, run_left, run_refusal, schedd_refusal, submit_refusal, tick_refusal, unless_due};
 
 use crate::judging::{ad_refusal, is_some_live};
 use crate::quiet::close_refusal;

@@ -1,6 +1,6 @@
 //! Every event of the schedd that a pool accepts keeps the pool.
 
-ghost use Rattle.std.specs.Prelude.{◌≡◌, ℕ, List, Option, None};
+ghost use Rattle.std.specs.Prelude.{ℕ, List, Option, None};
 ghost use Rattle.ad_eval.specs.Judgement.{Judgement, Mismatch};
 ghost use Rattle.ad_tree.specs.Ad.{Attributes};
 ghost use Rattle.claim_id.specs.declared.numbers.ClaimId.{ClaimId};

@@ -1,6 +1,6 @@
 // Lists that grow without memory, by items that were made beforehand.
 
-ghost use Rattle.std.specs.Prelude.{◌≡◌, ◌+◌, ◌<◌, ◌^◌, ◌++◌, ◌∷◌, [], IfOk, OnOk};
+ghost use Rattle.std.specs.Prelude.{◌≡◌, ◌+◌, ◌<◌, ◌++◌, ◌∷◌, [], IfOk, OnOk};
 ghost use Rattle.pool_steps.specs.Growing.{HasPlaces};
 ghost use Rattle.pool_rules.specs.Logging.{cluster_jobs};
 ghost use Rattle.pool_rules.specs.Schedds.{jobs_in};

@@ -1,6 +1,6 @@
 //! What holds of every protocol.
 
-ghost use Rattle.std.specs.Prelude.{◌≡◌, List, []};
+ghost use Rattle.std.specs.Prelude.{List};
 ghost use Rattle.claim_id.specs.declared.numbers.RunNo.{RunNo};
 ghost use Rattle.ad_eval.specs.Judgement.{Judgement};
 ghost use Rattle.pool_view.specs.AbstractPool.{IsDead};

@@ -15,7 +15,7 @@ ghost use Rattle.pool_view.specs.Ads.{Core};
 ghost use Rattle.pool_view.specs.Safe.{Safe};
 ghost use Rattle.pool_view.specs.Facts.{Facts};
 ghost use Rattle.pool_view.specs.Protocol.{HasMark, Holds, HoldsBefore, NewJob, OfJob, Protocol, Removal, Submission};
-ghost use Rattle.pool_view.specs.ProtocolMove.{Commit, Confirm, EndClaim, HasNoRun, HoldClaim, IsNotRun, MayAll, Pend, Reboot, SayGone, SendLease, StopRun, TakeOrder, UseNumber, confirm_move};
+ghost use Rattle.pool_view.specs.ProtocolMove.{Commit, EndClaim, HasNoRun, HoldClaim, IsNotRun, MayAll, Pend, Reboot, SayGone, SendLease, StopRun, TakeOrder, UseNumber, confirm_move};
 
 /// A claim that is handed over, a run number that is used up without a run, a run that ends with
 /// its claim, also for a rival, and a boot under a run.

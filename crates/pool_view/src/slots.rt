@@ -10,7 +10,7 @@ ghost use Rattle.pool_view.specs.Safe.{Safe};
 ghost use Rattle.pool_view.specs.Facts.{Facts};
 ghost use Rattle.pool_view.specs.Protocol.{HasMark, Holds, HoldsBefore, IsHeldBefore, IsHeldIn, Protocol};
 ghost use Rattle.pool_view.specs.ProtocolMove.{HasNoRun, IsFreeFor, IsNotRun, MayAll, MayMove, ProtocolMove, protocol_after, protocol_after_all};
-ghost use Rattle.pool_view.specs.SlotPart.{AreDistinct, ArePlaced, HasParts, IsPart, ShowsParts, SlotPart, is_of_slot, own_part_after, part_after, part_after_all};
+ghost use Rattle.pool_view.specs.SlotPart.{AreDistinct, ArePlaced, HasParts, IsPart, ShowsParts, SlotPart, is_of_slot, own_part_after, part_after_all};
 
 /// A move of a slot changes it as the move says.
 pub fn moves_change_their_slot()

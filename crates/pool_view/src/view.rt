@@ -5,7 +5,7 @@ use crate::mark::MarkEntryList;
 use crate::run::{EndReportList, RunList};
 use ad_tree::Ad;
 use ad_value::{Copied, Memory, Seq};
-use claim_id::{JobId, SlotId};
+use claim_id::SlotId;
 use std::alloc::Global;
 
 /// A slot's ad, which never changes.

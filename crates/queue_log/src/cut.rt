@@ -2,7 +2,7 @@ ghost use Rattle.std.specs.Prelude.{◌≡◌, ◌⊎◌, ◌≤◌, ℕ, List, 
 ghost use Rattle.std.specs.Option.{option_map};
 ghost use Rattle.pool_outer.specs.declared.store.StoreError.TheVariants.{Failed};
 ghost use Rattle.pool_outer.specs.Cause.{HasCause};
-ghost use Rattle.pool_outer.specs.Files.{bytes_in, Leaves, Learns, Misses, SameFiles, SameOthers};
+ghost use Rattle.pool_outer.specs.Files.{Leaves, Misses, SameFiles, SameOthers};
 ghost use Rattle.queue_log.specs.Moments.{LeavesOnly};
 
 use pool_outer::{Store, StoreError};

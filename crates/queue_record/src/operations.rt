@@ -1,6 +1,6 @@
 // What the words behind the code of an operation say.
 
-ghost use Rattle.std.specs.Prelude.{◌≡◌, ◌≢◌, None, [], IfOk, MatchResult};
+ghost use Rattle.std.specs.Prelude.{◌≡◌, ◌≢◌, None, [], IfOk};
 ghost use Rattle.std.specs.Option.{option_map};
 ghost use Rattle.ad_tree.specs.Tree.{tree};
 ghost use Rattle.ad_parse.specs.ExprText.{expression_at};

@@ -1,6 +1,6 @@
 // The text of a transaction.
 
-ghost use Rattle.std.specs.Prelude.{◌≡◌, ◌≢◌, ◌++◌, map, false, true, not, None, codes, string_bytes, IfOk, IfErr, OnOk, nat_le, length};
+ghost use Rattle.std.specs.Prelude.{◌≡◌, ◌≢◌, ◌++◌, map, false, true, None, codes, IfOk, IfErr, OnOk, nat_le, length};
 ghost use Rattle.ad_value.specs.Writing.{AddsText};
 ghost use Rattle.ad_tree.specs.Tree.{tree};
 ghost use Rattle.ad_parse.specs.Canon.{canon};

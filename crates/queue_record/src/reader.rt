@@ -3,7 +3,7 @@ ghost use Rattle.ad_value.specs.Bytes.{code};
 ghost use Rattle.queue_tx.specs.Operations.{operation};
 ghost use Rattle.queue_tx.specs.Queues.{queue_after};
 ghost use Rattle.queue_record.specs.Entries.{begins, ends, does, stamped, entry};
-ghost use Rattle.queue_record.specs.ReadSoFar.{start, refused, refusal_of, counted, goes_on, stamps, takes_in, after_entry, after_line, with_bytes, kept_all, counted_all, fed, Gives, HasNoNewline};
+ghost use Rattle.queue_record.specs.ReadSoFar.{start, refused, refusal_of, counted, takes_in, after_entry, after_line, with_bytes, kept_all, counted_all, fed, Gives, HasNoNewline};
 
 use crate::entry::{LogEntry, MAX_LINE, entry_of};
 use crate::error::RecordError;

@@ -15,7 +15,6 @@ use ad_value::{Copied, Memory};
 use ordered_map::{NewEntry, OrderedMap};
 use std::alloc::Global;
 use std::marker::Model;
-use std::ops::Bound;
 
 /// A mark that a key is in a set.
 #[derive(Clone, Copy, Debug)]

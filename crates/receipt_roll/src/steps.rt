@@ -1,12 +1,10 @@
 //! The three steps, over the parts of which a roll is made.
-ghost use Rattle.std.specs.Prelude.{◌≡◌, ℕ, List, [], ◌∷◌};
+ghost use Rattle.std.specs.Prelude.{◌≡◌, [], ◌∷◌};
 ghost use mathlib.Core.List.{IsPrefix};
 ghost use Rattle.logbook.specs.Pages.{may_write};
-ghost use Rattle.receipt_roll.specs.declared.growth.Growth.{Growth};
 ghost use Rattle.receipt_roll.specs.Growth.{items_since, last_right, newest_right};
 ghost use Rattle.receipt_roll.specs.Steps.{EachRollOf, GrowsBy, IsStepWord};
 
-use crate::growth::Growth;
 use crate::rule::{AddItem, Knowledge, Look, MakeRight, NoGain, NoTrade, Nothing, StepWord};
 use logbook::{Pen, Word};
 

@@ -1,6 +1,6 @@
 //! What holds of every schedd over its queue.
 
-ghost use Rattle.std.specs.Prelude.{◌≡◌, ◌↔◌, ℕ, ◌≤◌, true, false, List, ◌∷◌, Option, Some, None, Ok, IfSome};
+ghost use Rattle.std.specs.Prelude.{◌≡◌, ◌↔◌, ℕ, ◌≤◌, true, false, List, Option, Some, None, Ok, IfSome};
 ghost use Rattle.std.specs.Ordering.{is_gt};
 ghost use Rattle.claim_id.specs.declared.numbers.ClaimId.{ClaimId};
 ghost use Rattle.claim_id.specs.declared.numbers.JobId.{JobId};

@@ -1,11 +1,11 @@
 // The operations of plans.
 
-ghost use Rattle.std.specs.Prelude.{◌≡◌, ◌++◌, ◌∷◌, [], pos, IfOk};
+ghost use Rattle.std.specs.Prelude.{◌≡◌, ◌++◌, ◌∷◌, [], IfOk};
 ghost use Rattle.ad_tree.specs.Tree.{tree};
 ghost use Rattle.ad_rows.specs.Rows.{integer_literal, text_literal};
 ghost use Rattle.claim_id.specs.Texts.{claim_text};
-ghost use Rattle.queue_tx.specs.Operations.{set_attr, delete_attr, new_ad, destroy_ad};
-ghost use Rattle.queue_tx.specs.declared.key.Key.TheVariants.{Header, Proc};
+ghost use Rattle.queue_tx.specs.Operations.{set_attr, delete_attr, destroy_ad};
+ghost use Rattle.queue_tx.specs.declared.key.Key.TheVariants.{Proc};
 ghost use Rattle.schedd_plan.specs.Plans.{status_op, truth_literal, whole_literal};
 
 use ad_tree::Expr;

@@ -1,7 +1,6 @@
 // What is due at a reading.
 
 ghost use Rattle.std.specs.Prelude.{◌≡◌, IfOk};
-ghost use Rattle.std.specs.Option.{option_copied};
 ghost use Rattle.ad_value.specs.Content.{content};
 ghost use Rattle.schedd_plan.specs.TickTable.{is_after, lease_seconds, seconds_of, lease_or, lease_end, is_past, is_quiet, run_line, line_of_run, is_run_due, due_run, claim_line, ready_line, asked_line, leaving_line, is_claim_due, due_claim, is_run_act, is_claim_act};
 

@@ -5,7 +5,7 @@ ghost use Rattle.std.specs.Option.{option_copied};
 ghost use Rattle.ordered_map.specs.Trees.{is_past};
 ghost use Rattle.queue_tx.specs.Jobs.{FirstKey};
 ghost use Rattle.queue_tx.specs.Keys.{key_cmp, is_above};
-ghost use Rattle.queue_tx.specs.Periodic.{is_periodic, IsPeriodic};
+ghost use Rattle.queue_tx.specs.Periodic.{is_periodic};
 ghost use Rattle.queue_tx.specs.Queues.{ad_at};
 ghost use Rattle.schedd_state.specs.DueChecks.{job_of_key, FirstAgain, FirstDueKey, IsDueKey, IsFresh, IsPassedTo, NextChecked, OldestPeriodic, Passes};
 

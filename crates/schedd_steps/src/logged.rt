@@ -1,32 +1,27 @@
 // The unfinished transaction is in the log: what is sent then, and what a schedd that comes back
 // makes of it.
 
-ghost use Rattle.std.specs.Prelude.{◌≡◌, ◌+◌, ◌++◌, ◌-◌, ◌<◌, ◌≤◌, ℕ, List, Err, Option, false, true, length, IfErr, IfOk, IsSomeAnd, OnErr, OnOk};
-ghost use Rattle.claim_id.specs.declared.numbers.ClaimId.{ClaimId};
-ghost use Rattle.pool_parts.specs.Sizes.{mails_count, queue_count};
+ghost use Rattle.std.specs.Prelude.{◌≡◌, ◌+◌, ◌-◌, ◌<◌, ◌≤◌, Err, false, true, length, IfErr, IfOk, IsSomeAnd, OnErr, OnOk};
+ghost use Rattle.pool_parts.specs.Sizes.{mails_count};
 ghost use Rattle.pool_parts.specs.declared.size.TheConstants.{MAX_BYTES};
 ghost use Rattle.pool_outer.specs.declared.gate.Daemon.TheVariants.{Schedd};
 ghost use Rattle.pool_tables.specs.declared.refusal.StepError.TheVariants as error;
-ghost use Rattle.schedd_state.specs.DueChecks.{with_new};
 ghost use Rattle.schedd_state.specs.PreparedSchedds.{HasClaimRoom, schedd_after};
-ghost use Rattle.queue_tx.specs.declared.key.Key.TheVariants.{Proc};
 ghost use Rattle.pool_parts.specs.Growth.{Grows};
 ghost use Rattle.queue_tx.specs.Queues.{with_changes};
 ghost use Rattle.schedd_core.specs.Logging.{after_logged, IsReopened};
-ghost use Rattle.pool_rules.specs.Deeds.{at_rest, posts};
+ghost use Rattle.pool_rules.specs.Deeds.{at_rest};
 ghost use Rattle.pool_rules.specs.Happens.{ComesBack};
 ghost use Rattle.pool_rules.specs.Limits.{IsLimit, IsTooLarge, IsWithin};
-ghost use Rattle.pool_rules.specs.Logging.{IsLogged, cluster_jobs};
+ghost use Rattle.pool_rules.specs.Logging.{IsLogged};
 ghost use Rattle.schedd_steps.specs.Counting.{IsBackTooLarge, bytes_after, bytes_planned, planned, submitted};
 
 use crate::logging::{Changed, CountDeed, LogDeed, QueueDeed};
-use ad_value::Memory;
 use claim_id::JobId;
 use pool_parts::{Stepped, Unfinished};
 use pool_state::PoolState;
 use pool_steps::{bytes_with, join, limited, new_jobs, nothing_asked};
 use pool_tables::StepError;
-use queue_tx::Prepared;
 use schedd_core::{prepare_logged, prepare_reopen};
 use schedd_state::PreparedSchedd;
 use std::alloc::Global;

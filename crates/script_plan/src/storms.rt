@@ -3,7 +3,6 @@
 ghost use Rattle.std.specs.Prelude.{◌≡◌, ◌↔◌, ℕ, Option};
 ghost use Rattle.std.specs.List.{position};
 ghost use Rattle.std.specs.Str.{bytes_eq};
-ghost use Rattle.ad_value.specs.Decimals.{IsNumber};
 ghost use Rattle.script_plan.specs.declared.entry.Crash.{Crash};
 ghost use Rattle.script_plan.specs.declared.entry.Load.{Load};
 ghost use Rattle.script_plan.specs.Entries.{IsMail, IsPoint, IsDaemon, IsCrash, IsLoad, IsLoadNumber, IsLoadJobs};

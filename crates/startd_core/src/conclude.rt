@@ -1,7 +1,7 @@
 // What a reaction comes to.
 
 ghost use Rattle.std.specs.Prelude.{◌≡◌, IfOk};
-ghost use Rattle.startd_core.specs.Offers.{Settled, settled, pair_place, same_pair, same_offer, has_changed, has_entered, is_brief};
+ghost use Rattle.startd_core.specs.Offers.{settled, pair_place, same_pair, same_offer, has_changed, has_entered, is_brief};
 ghost use Rattle.startd_core.specs.Startds.{told_where_changed, made_by, answer_of};
 ghost use Rattle.startd_core.specs.Tellings.{told_state, told_mails};
 

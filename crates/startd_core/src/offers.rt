@@ -1,7 +1,7 @@
 // What a slot offers, and what is told of it.
 
 ghost use Rattle.std.specs.Prelude.{◌≡◌, IfOk, OnErr};
-ghost use Rattle.startd_core.specs.Offers.{settled, next_offer, user_in, rank_in, update_of};
+ghost use Rattle.startd_core.specs.Offers.{settled, user_in, rank_in, update_of};
 
 use crate::secret::secret_of;
 use ad_tree::Ad;

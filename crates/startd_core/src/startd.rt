@@ -1,4 +1,4 @@
-ghost use Rattle.std.specs.Prelude.{◌≡◌, ◌<◌, ◌||◌, [], true, false, length, None, Some, slice_get, slice_set, IfOk, OnSome, OnErr};
+ghost use Rattle.std.specs.Prelude.{◌≡◌, ◌<◌, ◌||◌, [], true, false, None, Some, slice_get, IfOk, OnErr};
 ghost use Rattle.std.specs.Option.{option_copied};
 ghost use Rattle.startd_slot.specs.declared.slot.Slot.{Slot};
 ghost use Rattle.startd_core.specs.DueTicks.{is_due, hangs_on_start};

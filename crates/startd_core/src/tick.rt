@@ -1,9 +1,8 @@
 // What comes with time.
 
 ghost use Rattle.std.specs.Prelude.{◌≡◌, true, IfOk, OnErr, if◌then◌else◌};
-ghost use Rattle.std.specs.Option.{option_copied};
 ghost use Rattle.ad_value.specs.Content.{content};
-ghost use Rattle.startd_core.specs.TickTable.{is_after, lets_in, is_start_on, is_unheard, is_run_past, is_lease_past, tick_row, after_tick_row, after_kill, is_act, is_kill, is_update_due, looks_at_start, slot_row};
+ghost use Rattle.startd_core.specs.TickTable.{is_after, lets_in, is_start_on, is_unheard, is_lease_past, tick_row, after_tick_row, is_act, is_kill, is_update_due, looks_at_start, slot_row};
 ghost use Rattle.startd_core.specs.declared.tick.TickRow.{TickRow};
 ghost use Rattle.startd_core.specs.declared.tick.TickRow.TheVariants as rows;
 

@@ -4,7 +4,7 @@ ghost use Rattle.std.specs.Prelude.{◌≡◌, ◌∷◌, ◌++◌, [], IfOk};
 ghost use Rattle.std.specs.Option.{option_copied};
 ghost use Rattle.job_launch.specs.Launches.{launch_of};
 ghost use Rattle.pool_mail.specs.declared.mail.Mail.TheVariants as mail;
-ghost use Rattle.startd_slot.specs.ActivateTable.{activate_row, claim_row, new_row, free_row, run_denied, burned, run_of, begun, gone_where, after_activate_row, after_activate};
+ghost use Rattle.startd_slot.specs.ActivateTable.{activate_row, claim_row, free_row, run_denied, burned, begun, gone_where, after_activate_row, after_activate};
 ghost use Rattle.startd_slot.specs.Reactions.{becomes};
 ghost use Rattle.startd_slot.specs.RunTable.{known_run, known_by_claim, unheld_run, ended_or_other, after_word_of, after_alive_of, after_alive, after_stop_of, after_stop};
 

@@ -1,6 +1,6 @@
-ghost use Rattle.std.specs.Prelude.{◌≡◌, ℕ, IfOk};
+ghost use Rattle.std.specs.Prelude.{◌≡◌};
 ghost use Rattle.std.specs.Option.{option_copied};
-ghost use Rattle.startd_slot.specs.SlotStates.{slot_after_boot, offers_claim, holds_claim, has_rival, running_of, runs_on, is_spent, is_used_in, is_claim, is_open, after_cue, without_claim, with_claim, held_of, heard_of, heard_claim, with_number, claim_with_number, with_run, claim_with_run, with_running, lengthened, stopped, evicted, without_run, claim_after_run, claim_with_running};
+ghost use Rattle.startd_slot.specs.SlotStates.{slot_after_boot, offers_claim, holds_claim, has_rival, running_of, runs_on, is_spent, is_used_in, is_open, after_cue, without_claim, with_claim, held_of, heard_of, heard_claim, with_number, with_run, with_running, lengthened, stopped, evicted, without_run, claim_after_run, claim_with_running};
 ghost use Rattle.startd_slot.specs.ReleaseTable.{is_busy};
 ghost use Rattle.startd_slot.specs.RunTable.{until_of};
 

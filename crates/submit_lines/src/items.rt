@@ -1,5 +1,5 @@
 ghost use Rattle.std.specs.Prelude.{◌≡◌, ◌≤◌, ◌<◌, ◌==◌, ◌||◌, IfOk, IsUtf8, OnOk, Some, [], ◌++◌, length};
-ghost use Rattle.std.specs.List.{list_any, position_or_len};
+ghost use Rattle.std.specs.List.{position_or_len};
 ghost use Rattle.submit_lines.specs.Queue.{is_separator, items_of, with_item, has_bracket, items_in, bracketed_items};
 
 use crate::cut::between;

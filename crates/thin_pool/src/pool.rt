@@ -4,7 +4,7 @@ ghost use Rattle.pool_view.specs.AbstractStep.{Takes};
 ghost use Rattle.thin_pool.specs.declared.event.Event.TheVariants.{Submit, Start, Ended};
 ghost use Rattle.thin_pool.specs.Answers.{kept_of};
 ghost use Rattle.thin_pool.specs.Moving.{steps_of};
-ghost use Rattle.thin_pool.specs.PoolValue.{AreNumberedOnce, job_at, run_at, slot_at};
+ghost use Rattle.thin_pool.specs.PoolValue.{AreNumberedOnce, job_at, slot_at};
 ghost use Rattle.thin_pool.specs.Sound.{IsSound};
 ghost use Rattle.thin_pool.specs.View.{view_of};
 ghost use Rattle.thin_pool.specs.Jobs.{idle_at, idle_jobs, has_unfinished};
