@@ -1,16 +1,15 @@
 -- What is left to feed, one item further.
-use Rattle.std.proofs.Common.{◌≡◌, ◌+◌, ◌<◌, ◌≤◌, ℕ, true, List, [], ◌∷◌, length, map, drop, get_or, refl, ap, sym, ◌∙◌, subst}
+use Rattle.std.proofs.Common.{◌≡◌, ◌+◌, ◌<◌, ◌≤◌, ℕ, List, ◌∷◌, length, map, drop, get_or, ap, sym, ◌∙◌}
 use Rattle.std.specs.declared.hash.FoldHasher.{FoldHasher}
 use Rattle.std.specs.List.{fold}
 use Rattle.std.specs.Hash.FoldHasher as folding
 use Rattle.std.specs.Cmp.Lexicographic.{bytes_decides}
 use Rattle.std.proofs.lemmas.List.{at_drop_more, at_drop_all}
 use Rattle.ad_value.specs.Names.{lowercase}
-use Rattle.ad_tree.specs.declared.operator.BinOp.{BinOp}
-use Rattle.ad_tree.specs.declared.tree.Expr.{Expr, the_lemmas}
+use Rattle.ad_tree.specs.declared.tree.Expr.{Expr}
 use Rattle.ad_tree.specs.declared.tree.Rest.{Rest}
-use Rattle.ad_tree.specs.Tree.{Tree, tree, trees_of, RestTree, rest, rests_of}
-use Rattle.ad_rows.specs.Digests.{byte_fed, name_fed, infix_number, tree_fed, trees_fed, rests_fed, attribute_digest, SameHaveOneDigest}
+use Rattle.ad_tree.specs.Tree.{tree, trees_of, RestTree, rest, rests_of}
+use Rattle.ad_rows.specs.Digests.{byte_fed, name_fed, infix_number, tree_fed, trees_fed, rests_fed, SameHaveOneDigest}
 
 pub trees_step : (h : FoldHasher) (xs : List Expr) (i : ℕ) (x : Expr) → i < length xs → x ≡ get_or xs i x
     → trees_fed (tree_fed (byte_fed h 14) (tree x)) (trees_of (map tree (drop (i + 1) xs))) ≡ trees_fed h (trees_of (map tree (drop i xs)))

@@ -16,7 +16,7 @@ use Rattle.pool_rules.specs.Answers.{answered, answer_of_startd, answer_with, pe
 use Rattle.pool_rules.specs.Deeds.{startd_answer}
 use Rattle.pool_rules.specs.Happens.{ComesBack, Happens, IsDone, Reacts, Receives, Ticks}
 use Rattle.pool_rules.specs.Logging.{IsLogged}
-use Rattle.pool_rules.specs.Startds.{IsReceivedStep, IsStartdStep, StartdDoes, StartdEnds, StartdReceives}
+use Rattle.pool_rules.specs.Startds.{IsReceivedStep, IsStartdStep, StartdDoes, StartdReceives}
 use Rattle.pool_outer.specs.declared.gate.Daemon.{Daemon}
 use Rattle.pool_outer.specs.declared.gate.Daemon.TheVariants.{Schedd, Startd, Matchmaker}
 use Rattle.pool_parts.specs.declared.pending.Pending.{Pending}

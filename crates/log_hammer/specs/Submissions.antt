@@ -1,6 +1,5 @@
 -- What submits a job.
 use Rattle.std.specs.Prelude.{ℕ, List, [], ◌∷◌, codes}
-use Rattle.claim_id.specs.declared.numbers.JobId.{JobId}
 use Rattle.ad_rows.specs.Rows.{integer_literal}
 use Rattle.queue_tx.specs.declared.key.Key.{Key}
 use Rattle.queue_tx.specs.declared.key.Key.TheVariants.{Proc}

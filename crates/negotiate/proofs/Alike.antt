@@ -1,7 +1,7 @@
 -- An expression means the same over two pairs of ads that agree in all that it can reach.
 use Rattle.std.proofs.Common.{◌≡◌, ℕ, zero, suc, ◌-◌, ◌==◌, ◌&&◌, true, cond, List, [], ◌∷◌, ◌++◌, Option, Some, None, refl, ap, sym, ◌∙◌}
 use Rattle.std.proofs.lemmas.Bool.{or_left, or_right}
-use Rattle.ad_value.specs.Content.{Content, undefined, error, contents_of}
+use Rattle.ad_value.specs.Content.{Content, error, contents_of}
 use Rattle.ad_value.specs.Content as value
 use Rattle.ad_value.specs.Truth.{truth_of, chosen_value}
 use Rattle.ad_func.specs.Called.{call_value}

@@ -1,6 +1,5 @@
 -- A walk over the keys of a queue, by which each can be printed.
 use Rattle.std.proofs.Common.{◌≡◌, ◌<◌, Bool, true, false, cond, [], ◌∷◌, length, Option, Some, None, IfSome, refl, sym, subst}
-use Rattle.ad_tree.specs.Ad.{Attributes}
 use Rattle.pool_parts.proofs.Walks.{all_at_first, next_key, no_key, rest_of}
 use Rattle.queue_tx.specs.declared.key.Key.{Key}
 use Rattle.queue_tx.proofs.Transactions.{same_keys}

@@ -20,7 +20,7 @@ use Rattle.pool_config.specs.declared.setting_word.SlotWord.TheVariants as slot
 use Rattle.pool_config.specs.Configuration.{Configuration, ConfiguredMachine, configuration_of, outcome, HaveSlots, total_slots, plain_machine}
 use Rattle.pool_config.specs.Errors.{UnlessMemory}
 use Rattle.pool_config.specs.Keys.{Sets, of_pool, ceiling, prio_factor, of_slots, attribute}
-use Rattle.pool_config.specs.Settings.{SoFar, and_last, set_to, pool_with, whole, with_value, with_seconds, with_config, seconds_in, owner_in, expression_in, machine_check, begin_if, last_with, with_last, machine_with, slots_with, attribute_with, amount_in, is_full, is_unfit, ceiling_in, factor_in, ceiling_set, factor_set, spool_with}
+use Rattle.pool_config.specs.Settings.{SoFar, and_last, set_to, pool_with, whole, with_value, with_seconds, with_config, seconds_in, owner_in, expression_in, machine_check, begin_if, last_with, with_last, machine_with, slots_with, attribute_with, amount_in, is_full, is_unfit, ceiling_in, factor_in, ceiling_set, factor_set}
 use Rattle.pool_config.specs.Lines.{LinesSoFar, ReadResult, TakesValue, no_expansion, expanded, TakesKey, homeless, takes, TakesSetting, unknown, known, TakesLine, no_setting, sets, Reads, ended, no_machine, refuses, and_line, and_macro, begun, IsConfiguration}
 
 slots_more : (ms : List ConfiguredMachine) (m : ConfiguredMachine) → HaveSlots ms → 0 < m.slots → HaveSlots (ms ++ m ∷ [])

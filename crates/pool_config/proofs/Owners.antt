@@ -1,5 +1,5 @@
 -- The owner of a configuration is a name.
-use Rattle.std.proofs.Common.{◌≡◌, ℕ, Bool, true, false, cond, List, [], ◌∷◌, Option, Some, None, Result, Ok, Err, refl, ap, ◌∙◌}
+use Rattle.std.proofs.Common.{◌≡◌, ℕ, Bool, true, false, cond, List, Option, Some, None, Result, Ok, Err, refl, ap, ◌∙◌}
 use Rattle.ad_token.specs.Names.{is_name, word_of}
 use Rattle.line_text.specs.declared.logical.Line.{Line}
 use Rattle.line_text.specs.Lines.{logical_lines}

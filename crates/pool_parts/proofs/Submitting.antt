@@ -1,7 +1,7 @@
 -- The transaction of a submission can be logged over a queue that has room, as a new cluster.
 use Rattle.std.proofs.Common.{◌≡◌, ℕ, ◌+◌, ◌<◌, ◌≤◌, ◌^◌, Bool, true, false, not, ◌||◌, ◌&&◌, cond, List, [], ◌∷◌, ◌++◌, length, map, Some, None, is_some, Ok, Err, append_assoc, append-nil, refl, ap, sym, ◌∙◌, subst, arith}
 use Rattle.std.specs.Prelude.{nat_eq, nat_le, is_ok}
-use Rattle.std.proofs.lemmas.Bool.{ne_eqb, lt-leb}
+use Rattle.std.proofs.lemmas.Bool.{ne_eqb}
 use Rattle.std.proofs.lemmas.List.{length-append}
 use Rattle.ad_tree.specs.Tree.{Tree}
 use Rattle.ad_tree.specs.Ad.{Attributes, lookup, with_attribute}
@@ -15,7 +15,7 @@ use Rattle.queue_tx.specs.declared.key.Key.{Key}
 use Rattle.queue_tx.specs.declared.key.Key.TheVariants.{Header, Proc}
 use Rattle.queue_tx.specs.declared.names.TheConstants.{NEXT_CLUSTER_NUM}
 use Rattle.queue_tx.specs.Keys.{number_of, same_key, same_key_laws}
-use Rattle.queue_tx.specs.Operations.{Operation, new_ad, set_attr}
+use Rattle.queue_tx.specs.Operations.{Operation}
 use Rattle.queue_tx.specs.Printable.{IsPrintable, IsPrintableAd}
 use Rattle.queue_tx.specs.Queues.{KeyedAds, IsQueue, ad_at, with_ad, queue_after}
 use Rattle.queue_tx.specs.Room.{most_own, is_kept_name, is_own, own_count, is_full_of_own, lacks_room}

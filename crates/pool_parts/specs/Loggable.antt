@@ -1,5 +1,5 @@
 -- When a transaction can be logged over a queue, and what of the queue that rests on.
-use Rattle.std.specs.Prelude.{◌≡◌, ◌<◌, ◌≤◌, ◌+◌, ◌^◌, ℕ, List, [], ◌∷◌, None, is_some, IfSome, IsSome, IsOk}
+use Rattle.std.specs.Prelude.{◌≡◌, ◌<◌, ◌+◌, ◌^◌, ℕ, List, [], ◌∷◌, None, is_some, IsSome, IsOk}
 use Rattle.ad_parse.specs.ValueText.{IsShortInteger}
 use Rattle.ad_tree.specs.Ad.{Attributes, IsAd}
 use Rattle.ad_tree.specs.Tree.{Tree, literal}
@@ -7,7 +7,6 @@ use Rattle.ad_value.specs.Content.{integer}
 use Rattle.claim_id.specs.declared.numbers.JobId.{JobId}
 use Rattle.claim_id.specs.Texts.{IsClaim}
 use Rattle.pool_parts.specs.Submissions.{job_numbered}
-use Rattle.queue_tx.specs.declared.key.Key.{Key}
 use Rattle.queue_tx.specs.declared.key.Key.TheVariants.{Header, Proc}
 use Rattle.queue_tx.specs.Operations.{Operation, new_ad, set_attr}
 use Rattle.queue_tx.specs.Printable.{HasPrintableKeys, IsPrintable, IsPrintableAd, IsPrintableKey}

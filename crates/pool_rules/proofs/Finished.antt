@@ -4,7 +4,7 @@ use Rattle.std.specs.Prelude.{Ok}
 use Rattle.ad_tree.specs.Ad.{Attributes}
 use Rattle.claim_id.specs.declared.numbers.JobId.{JobId}
 use Rattle.pool_view.specs.AbstractPool.{AbstractPool, IsIn, set}
-use Rattle.pool_view.specs.AbstractStep.{Free, Hold, Release, Finish, Grant, Lengthen}
+use Rattle.pool_view.specs.AbstractStep.{Grant, Lengthen}
 use Rattle.pool_view.specs.Ads.{core_of}
 use Rattle.pool_view.specs.Numbers.{same_job}
 use Rattle.pool_view.specs.declared.job.Entry.{Entry}

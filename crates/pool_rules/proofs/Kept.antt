@@ -18,7 +18,7 @@ use Rattle.pool_view.specs.SlotPart.{HasParts, part_after_all}
 use Rattle.pool_view.proofs.Whole.{parts_on_all}
 use Rattle.startd_core.specs.Sound.{IsSound}
 use Rattle.startd_core.specs.Startds.{After, StartdValue}
-use Rattle.pool_rules.specs.Linked.{IsPlaced, AreBorneOut, AreEndsReported, IsFinishedAs, IsStartdAt, AreStartds, IsPlanPlaced, Awaits, IsLinked, StayLinked, ended_of}
+use Rattle.pool_rules.specs.Linked.{AreBorneOut, AreEndsReported, IsFinishedAs, IsStartdAt, IsPlanPlaced, Awaits, IsLinked, StayLinked, ended_of}
 use Rattle.pool_rules.specs.PoolParts.{Awaited, NewJobs, Planned, PoolParts, machine_parts, pool_parts}
 use Rattle.pool_rules.specs.StartdEvents.{parts_with_startd}
 use Rattle.pool_rules.proofs.Going.{GoesOn, goes_on, all_good, borne_on, reported_on}

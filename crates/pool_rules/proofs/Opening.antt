@@ -31,7 +31,7 @@ use Rattle.startd_slot.specs.declared.slot.Slot.{Slot}
 use Rattle.startd_slot.specs.declared.slot.SlotState.{SlotState}
 use Rattle.startd_slot.specs.SlotMoves.{part_of}
 use Rattle.startd_slot.specs.SlotStates.{slot_after_boot}
-use Rattle.pool_rules.specs.Linked.{IsFinishedAs, IsStartdAt, AwaitsNothing, Awaits, HoldTogether, IsLinked, ended_of}
+use Rattle.pool_rules.specs.Linked.{IsFinishedAs, Awaits, IsLinked, ended_of}
 use Rattle.pool_rules.specs.Openings.{IsOpeningPool}
 use Rattle.pool_rules.specs.PoolParts.{PoolParts, pool_parts}
 use Rattle.pool_rules.proofs.Machines.{in_place}

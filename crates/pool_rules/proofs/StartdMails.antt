@@ -24,16 +24,15 @@ use Rattle.startd_slot.specs.declared.slot.Slot.{Slot}
 use Rattle.startd_slot.specs.declared.slot.SlotState.{SlotState}
 use Rattle.startd_slot.specs.Mails.{asked_claim, reaction_to}
 use Rattle.startd_slot.specs.SlotMoves.{IsJudgedHere, IsTold, moves_of_mail, part_of}
-use Rattle.startd_slot.specs.SlotStates.{is_spent, slot_after_boot}
 use Rattle.startd_slot.proofs.MoveMails.{mail_changes, mail_may}
 use Rattle.startd_core.specs.declared.answer.StartdStep.{StartdStep}
 use Rattle.startd_core.specs.Offers.{Settled, settled, settled_open, has_changed}
 use Rattle.startd_core.specs.Sound.{IsSlotAt, IsSound}
-use Rattle.startd_core.specs.Startds.{After, StartdValue, after_mail, after_made, concluded, made_by, nothing_done, nowhere, place_of, put_at, put_in, received_at, received_in, received_of, slot_in, slot_of, slot_of_claim, stranger_step, told, with_conclusion}
+use Rattle.startd_core.specs.Startds.{StartdValue, after_mail, after_made, concluded, made_by, nothing_done, nowhere, place_of, put_at, put_in, received_at, received_in, received_of, slot_in, slot_of, slot_of_claim, stranger_step, told, with_conclusion}
 use Rattle.startd_core.proofs.Places.{slot_there}
 use Rattle.startd_core.proofs.Stays.{mail_put}
 use Rattle.startd_core.proofs.Telling.{concluded_part}
-use Rattle.pool_rules.specs.Linked.{IsPlaced, IsBorneOut, AreBorneOut, IsEndReported, AreEndsReported, IsLinked, IsStartdAt, StayLinked, ended_of}
+use Rattle.pool_rules.specs.Linked.{IsPlaced, IsBorneOut, AreBorneOut, IsEndReported, IsLinked, IsStartdAt, StayLinked, ended_of}
 use Rattle.pool_rules.specs.PoolParts.{PoolParts, machine_parts, pool_parts, slot_in_pool, slot_of_startd}
 use Rattle.pool_rules.specs.StartdEvents.{moves_in_slot, moves_of_startd_mail, parts_with_startd}
 use Rattle.pool_rules.proofs.Going.{GoesOn, goes_on, reported_on}

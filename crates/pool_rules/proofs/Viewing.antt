@@ -21,11 +21,11 @@ use Rattle.queue_tx.specs.declared.kind.JobKind.TheVariants as kind
 use Rattle.queue_tx.specs.Kinds.{kind_of}
 use Rattle.queue_tx.specs.Queues.{ad_at}
 use Rattle.schedd_plan.specs.JobPlaces.{is_left}
-use Rattle.schedd_core.specs.JobStates.{ShowsEntry, ShowsJob, ShowsJobs, ShowsState}
+use Rattle.schedd_core.specs.JobStates.{ShowsEntry, ShowsJob, ShowsState}
 use Rattle.schedd_core.specs.ScheddParts.{IsPart}
 use Rattle.schedd_core.proofs.PlanAds.{run_kind}
 use Rattle.schedd_core.proofs.PlanMay.{stands_under}
-use Rattle.pool_rules.specs.Linked.{AreBorneOut, AreStartds, IsFinishedAs, IsLinked, StayLinked}
+use Rattle.pool_rules.specs.Linked.{AreStartds, IsFinishedAs, IsLinked, StayLinked}
 use Rattle.pool_rules.specs.PoolParts.{PoolParts, pool_parts}
 use Rattle.pool_rules.specs.Shown.{IsKnown, LeftRightly, SameParts, ShowsPool}
 use Rattle.pool_rules.proofs.Going.{after_append, goes_on, may_append}

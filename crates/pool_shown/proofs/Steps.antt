@@ -1,5 +1,5 @@
 -- One job more, and the slots of one machine more.
-use Rattle.std.proofs.Common.{◌≡◌, ℕ, suc, ◌+◌, ◌<◌, List, [], ◌∷◌, ◌++◌, length, map, drop, get_or, append_assoc, add-one, Option, Some, None, refl, ap, sym, ◌∙◌}
+use Rattle.std.proofs.Common.{◌≡◌, ℕ, suc, ◌+◌, ◌<◌, List, ◌∷◌, ◌++◌, length, map, drop, get_or, append_assoc, add-one, Option, Some, None, refl, ap, sym, ◌∙◌}
 use Rattle.std.proofs.Math.Seq.{drop-cons}
 use Rattle.std.proofs.lemmas.List.{map-append}
 use Rattle.std.proofs.lemmas.List.Elements.{filter_map-append}
@@ -8,7 +8,7 @@ use Rattle.claim_id.specs.declared.numbers.JobId.{JobId}
 use Rattle.pool_shown.specs.Slots.{all_slots}
 use Rattle.pool_shown.specs.declared.slots.ShownSlots.{ShownSlots}
 use Rattle.pool_shown.specs.ShownJobs.{one_entry}
-use Rattle.pool_shown.specs.ShownSlots.{ad_on, mark_on, run_on, shown_slots, with_slots}
+use Rattle.pool_shown.specs.ShownSlots.{ad_on, mark_on, run_on, with_slots}
 use Rattle.pool_tables.specs.DaemonTables.{DaemonsValue}
 use Rattle.pool_view.specs.declared.job.JobEntry.{JobEntry}
 use Rattle.startd_core.specs.Startds.{StartdValue}

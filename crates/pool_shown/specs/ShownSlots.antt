@@ -1,6 +1,5 @@
 -- The runs, the marks and the ads that slots show.
-use Rattle.std.specs.Prelude.{◌≡◌, ℕ, List, [], ◌∷◌, ◌++◌, filter_map, map, Option, Some, None, option_map}
-use Rattle.pool_shown.specs.Slots.{all_slots}
+use Rattle.std.specs.Prelude.{ℕ, List, [], ◌∷◌, ◌++◌, filter_map, map, Option, Some, None, option_map}
 use Rattle.pool_outer.specs.declared.gate.Daemon.TheVariants.{Startd}
 use Rattle.pool_shown.specs.declared.slots.ShownSlots.{ShownSlots}
 use Rattle.pool_tables.specs.declared.states.DaemonState.{DaemonState}

@@ -1,8 +1,6 @@
 -- The pool that opens, by its parts.
 use Rattle.std.proofs.Common.{◌≡◌, ℕ, ◌+◌, ◌*◌, ◌^◌, ◌≤◌, List, length, map, min, ap, sym, ◌∙◌, subst, arith}
-use Rattle.pool_parts.specs.declared.size.TheConstants.{MAX_BYTES}
 use Rattle.pool_parts.specs.Sizes.{queue_count}
-use Rattle.pool_state.specs.declared.opening.Machinery.{Machinery}
 use Rattle.pool_state.specs.declared.opening.Opening.{Opening}
 use Rattle.pool_state.specs.declared.opening.QueueParts.{QueueParts}
 use Rattle.pool_state.specs.declared.opening.Tables.{Tables}

@@ -1,12 +1,11 @@
 -- Reading goes on, byte by byte.
-use Rattle.std.proofs.Common.{◌≡◌, ◌≢◌, ℕ, zero, suc, ◌+◌, ◌-◌, ◌<◌, ◌≤◌, ◌^◌, ◌==◌, ◌&&◌, min, not, Bool, true, false, cond, ltb, List, [], ◌∷◌, ◌++◌, length, take, drop, get_or, Option, Some, None, Result, Ok, Err, OnOk, refl, ap, sym, ◌∙◌, subst, arith, append_assoc, length-append}
+use Rattle.std.proofs.Common.{◌≡◌, ℕ, zero, suc, ◌+◌, ◌-◌, ◌<◌, ◌^◌, ◌==◌, ◌&&◌, min, not, Bool, true, false, cond, ltb, List, [], ◌∷◌, ◌++◌, length, take, Option, Some, None, Result, Ok, Err, OnOk, refl, ap, sym, ◌∙◌, subst, arith, append_assoc, length-append}
 use Rattle.std.specs.List.{list_all}
 use Rattle.std.specs.Result.{is_ok}
 use Rattle.std.proofs.lemmas.Bool.Decides.{nat_tests}
 use Rattle.std.proofs.lemmas.List.{append-nil}
 use Rattle.queue_record.specs.declared.error.RecordError.{RecordError}
-use Rattle.queue_record.specs.declared.error.RecordError.TheVariants.{Memory}
-use Rattle.queue_record.specs.ReadSoFar.{ReadSoFar, refused, counted, kept_part, kept_all, counted_all, in_line, after_byte, after_line, with_bytes, fed, Gives, HasNoNewline}
+use Rattle.queue_record.specs.ReadSoFar.{ReadSoFar, refused, counted, kept_all, counted_all, in_line, after_byte, after_line, with_bytes, fed, Gives, HasNoNewline}
 
 pub fed_append : (r : ReadSoFar) (xs ys : List ℕ) → fed r (xs ++ ys) ≡ fed (fed r xs) ys
 fed_append r [] ys = refl

@@ -1,5 +1,5 @@
 -- What was read of a log, line by line.
-use Rattle.std.proofs.Common.{◌≡◌, ◌≢◌, ◌⊎◌, inl, inr, ℕ, zero, suc, ◌+◌, ◌-◌, ◌<◌, ◌≤◌, ◌^◌, ◌==◌, ◌&&◌, min, not, Bool, true, false, cond, ltb, List, [], ◌∷◌, ◌++◌, length, Option, Some, None, Result, Ok, Err, IfSome, refl, ap, sym, ◌∙◌, subst, arith, append_assoc, length-append}
+use Rattle.std.proofs.Common.{◌≡◌, ◌⊎◌, inl, inr, ℕ, zero, suc, ◌+◌, ◌-◌, ◌<◌, ◌≤◌, ◌^◌, ◌==◌, ◌&&◌, min, not, Bool, true, false, cond, ltb, List, [], ◌∷◌, ◌++◌, length, Option, Some, None, Result, Ok, Err, IfSome, refl, ap, sym, ◌∙◌, subst, arith, append_assoc, length-append}
 use Rattle.std.specs.List.{list_all}
 use Rattle.std.proofs.lemmas.Bool.{eqb-true, ltb-true, ltb-false, lt-ltb}
 use Rattle.std.proofs.lemmas.Bool.Decides.{nat_tests}
@@ -10,9 +10,8 @@ use Rattle.queue_tx.specs.Queues.{KeyedAds, queue_after, queue_after_all, after_
 use Rattle.queue_record.specs.declared.error.RecordError.{RecordError}
 use Rattle.queue_record.specs.declared.error.RecordError.TheVariants.{BadRecord, TooLong}
 use Rattle.queue_record.specs.Entries.{Entry, begins, ends, does, stamped, entry_at}
-use Rattle.queue_record.specs.Records.{IsShort, Record}
-use Rattle.queue_record.specs.ReadSoFar.{ReadSoFar, start, refused, refusal_of, counted, goes_on, stamps, takes_in, after_entry, after_line, kept_all, kept_part, counted_all, with_bytes, fed, HasNoNewline}
-use Rattle.queue_record.specs.Logs.{lines_text, IsEntryLine, AreOperations, AreWhole, nothing, stamp, single, several, AreOpen, StandsFor, IsMisplaced, IsCause, long, no_record, misplaced, alone, together, IsBadLog}
+use Rattle.queue_record.specs.ReadSoFar.{ReadSoFar, start, refused, refusal_of, counted, goes_on, takes_in, after_entry, after_line, kept_all, kept_part, counted_all, with_bytes, fed, HasNoNewline}
+use Rattle.queue_record.specs.Logs.{lines_text, IsEntryLine, AreOperations, AreWhole, nothing, stamp, single, several, AreOpen, StandsFor, IsCause, long, no_record, misplaced, alone, together, IsBadLog}
 use Rattle.queue_record.proofs.Feeding.{fed_bytes, fed_line, fed_refused, kept_full, counted_is}
 use Rattle.queue_record.proofs.RecordLemmas.{read_is_record, record_is_read}
 

@@ -1,5 +1,5 @@
 -- The line of an operation is read as that operation.
-use Rattle.std.proofs.Common.{◌≡◌, ◌≢◌, ℕ, zero, suc, ◌+◌, ◌<◌, ◌≤◌, ◌^◌, ◌==◌, ◌&&◌, ◌||◌, not, codes, decimal, pos, negsuc, Bool, true, false, cond, List, [], ◌∷◌, ◌++◌, length, get_or, Option, Some, None, refl, ap, sym, ◌∙◌, subst, arith, append_assoc}
+use Rattle.std.proofs.Common.{◌≡◌, ◌≢◌, ℕ, ◌+◌, ◌<◌, ◌≤◌, ◌^◌, ◌==◌, ◌&&◌, ◌||◌, not, codes, decimal, pos, negsuc, Bool, true, false, cond, List, [], ◌∷◌, ◌++◌, length, Option, Some, None, refl, ap, sym, ◌∙◌, subst, arith, append_assoc}
 use Rattle.std.specs.List.{list_all, flat_map}
 use Rattle.std.specs.Str.{IsUtf8}
 use Rattle.std.specs.Int.{IsInRange}
@@ -20,27 +20,24 @@ use Rattle.ad_tree.specs.declared.operator.Scope.TheVariants.{Bare, My, Target}
 use Rattle.ad_token.specs.declared.token.Bracket.TheVariants.{Round, Curly}
 use Rattle.ad_token.specs.declared.token.Token.{Token}
 use Rattle.ad_token.specs.declared.token.Token.TheVariants as token
-use Rattle.ad_token.specs.Lexing.{is_blank, tokens_of}
-use Rattle.ad_token.specs.Names.{is_name, is_name_byte, is_letter}
+use Rattle.ad_token.specs.Lexing.{is_blank}
+use Rattle.ad_token.specs.Names.{is_name, is_name_byte}
 use Rattle.ad_token.specs.Canonical.{operator_text, scope_text, token_text, is_line, is_proper, joined_text, are_apart, ends_at}
-use Rattle.ad_parse.specs.Grammar.{IsText}
 use Rattle.ad_parse.specs.Canon.{canon}
-use Rattle.ad_parse.specs.ExprText.{IsExprText}
-use Rattle.ad_parse.proofs.Pieces.{Proper, pieces, joined_is_canon}
+use Rattle.ad_parse.proofs.Pieces.{pieces, joined_is_canon}
 use Rattle.ad_parse.proofs.Apart.{pieces_apart}
 use Rattle.ad_parse.proofs.Proper.{what_is_read_is_proper}
-use Rattle.claim_id.specs.declared.numbers.JobId.{JobId}
-use Rattle.claim_id.specs.Texts.{job_text, IsJob}
+use Rattle.claim_id.specs.Texts.{job_text}
 use Rattle.claim_id.proofs.Pieces.{job_text-pieces}
 use Rattle.queue_tx.specs.declared.key.Key.{Key}
 use Rattle.queue_tx.specs.declared.key.Key.TheVariants.{Header, Proc}
 use Rattle.queue_tx.specs.Operations.{Operation, new_ad, destroy_ad, set_attr, delete_attr}
 use Rattle.queue_tx.specs.Printable.{IsPrintableKey, IsWord, IsPrintableTree, IsPrintableOp}
-use Rattle.queue_record.specs.Keys.{key_text, IsKeyWord}
-use Rattle.queue_record.specs.Texts.{op_line, word_text, prints_short, is_long}
-use Rattle.queue_record.specs.Entries.{Entry, does, entry_at}
+use Rattle.queue_record.specs.Keys.{key_text}
+use Rattle.queue_record.specs.Texts.{op_line, prints_short, is_long}
+use Rattle.queue_record.specs.Entries.{does, entry_at}
 use Rattle.queue_record.specs.ReadSoFar.{HasNoNewline}
-use Rattle.queue_record.specs.Records.{IsWordBefore, IsNextWord, AreKinds, both, IsSetting, Record, IsShort, may_end_before}
+use Rattle.queue_record.specs.Records.{IsNextWord, both, Record, IsShort, may_end_before}
 use Rattle.queue_record.proofs.Newlines.{decimal_line}
 use Rattle.queue_record.proofs.RecordLemmas.{record_is_read}
 

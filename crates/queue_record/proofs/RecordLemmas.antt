@@ -1,13 +1,12 @@
 -- A line says what the function of its bytes gives.
-use Rattle.std.proofs.Common.{◌≡◌, ◌≢◌, ℕ, zero, suc, ◌+◌, ◌<◌, ◌≤◌, ◌&&◌, not, codes, Bool, true, false, cond, List, [], ◌∷◌, ◌++◌, take, drop, length, get_or, map, Option, Some, None, Result, Ok, Err, refl, ap, sym, ◌∙◌, subst, arith}
-use Rattle.std.specs.Option.{option_and_then, option_map}
-use Rattle.std.specs.List.{prefix_len, list_all}
+use Rattle.std.proofs.Common.{◌≡◌, ℕ, suc, ◌+◌, ◌&&◌, codes, Bool, true, false, cond, List, [], ◌∷◌, ◌++◌, drop, map, Option, Some, None, Result, Ok, Err, refl, ap, sym, ◌∙◌, subst, arith}
+use Rattle.std.specs.Option.{option_map}
+use Rattle.std.specs.List.{prefix_len}
 use Rattle.std.specs.Str.{IsUtf8, is_utf8, bytes_eq}
 use Rattle.std.specs.Cmp.Lexicographic.{bytes_decides}
 use Rattle.std.proofs.lemmas.Str.{IsUtf8-from_is_utf8, is_utf8-from_IsUtf8}
 use Rattle.ad_tree.specs.Tree.{Tree}
-use Rattle.ad_token.specs.declared.token.Placed.{Placed}
-use Rattle.ad_token.specs.Lexing.{is_blank, tokens_of, tokens_from}
+use Rattle.ad_token.specs.Lexing.{is_blank, tokens_of}
 use Rattle.ad_token.specs.Blanks.{past_blanks}
 use Rattle.ad_token.specs.Canonical.{tokens_in, token_of}
 use Rattle.ad_token.specs.Names.{is_name}
@@ -20,10 +19,10 @@ use Rattle.ad_parse.proofs.Moved.{moved_cond, no_tokens}
 use Rattle.ad_parse.proofs.Texts.{said_is_read, found_by}
 use Rattle.queue_tx.specs.declared.key.Key.{Key}
 use Rattle.queue_tx.specs.Operations.{Operation, new_ad, destroy_ad, set_attr, delete_attr}
-use Rattle.queue_record.specs.Keys.{key_at, IsKeyWord}
+use Rattle.queue_record.specs.Keys.{IsKeyWord}
 use Rattle.queue_record.specs.Words.{first_word, past_word, begins_blank, are_blanks, with_word, at_end}
-use Rattle.queue_record.specs.Entries.{Entry, begins, ends, does, stamped, next_key, with_key, new_at, new_with, new_from, destroy_at, set_at, set_with, set_from, set_to, delete_at, delete_with, delete_from, tree_in, is_numeral, sequence_of, stamp_at, stamp_of, entry_by, entry_at}
-use Rattle.queue_record.specs.Records.{AreBlanks, IsWordBefore, IsNextWord, AreWordsBefore, AreWords, AreKeyAndWords, AreKinds, neither, one, both, IsSetting, IsStamp, code_of, SaysAfter, Record}
+use Rattle.queue_record.specs.Entries.{Entry, begins, ends, does, stamped, new_at, new_with, new_from, destroy_at, set_at, set_with, set_from, set_to, delete_at, delete_with, delete_from, tree_in, is_numeral, sequence_of, stamp_at, stamp_of, entry_by, entry_at}
+use Rattle.queue_record.specs.Records.{AreBlanks, IsWordBefore, IsNextWord, AreWordsBefore, AreKinds, neither, one, both, code_of, SaysAfter, Record}
 use Rattle.queue_record.proofs.RecordWords.{first_and_rest, word_cut, first_word_is, with_is, is_with, key_with, is_key_with, at_end_is, is_at_end, blank_word}
 
 -- ---- a new ad

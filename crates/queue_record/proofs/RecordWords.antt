@@ -1,13 +1,13 @@
 -- The words of a line, as a relation and as a function.
-use Rattle.std.proofs.Common.{◌≡◌, ◌≢◌, ℕ, zero, suc, ◌+◌, ◌<◌, ◌≤◌, ◌&&◌, not, Bool, true, false, cond, List, [], ◌∷◌, ◌++◌, take, drop, length, get_or, Option, Some, None, refl, ap, sym, ◌∙◌, subst, arith}
-use Rattle.std.specs.List.{prefix_len, list_all}
+use Rattle.std.proofs.Common.{◌≡◌, ℕ, zero, suc, ◌+◌, ◌&&◌, not, Bool, true, false, cond, List, [], ◌∷◌, ◌++◌, take, drop, length, Option, Some, None, refl, ap, sym, ◌∙◌, subst, arith}
+use Rattle.std.specs.List.{list_all}
 use Rattle.std.specs.Option.{option_and_then, option_map}
 use Rattle.ad_token.specs.Lexing.{is_blank}
 use Rattle.queue_tx.specs.declared.key.Key.{Key}
 use Rattle.queue_record.specs.Keys.{key_at, IsKeyWord}
-use Rattle.queue_record.specs.Words.{word_length, first_word, past_word, begins_blank, are_blanks, next_word, with_word, at_end}
-use Rattle.queue_record.specs.Entries.{next_key, with_key}
-use Rattle.queue_record.specs.Records.{AreBlanks, may_end_before, IsWordBefore, IsNextWord, AreWordsBefore, AreWords, AreKeyAndWords}
+use Rattle.queue_record.specs.Words.{word_length, first_word, past_word, are_blanks, next_word, with_word, at_end}
+use Rattle.queue_record.specs.Entries.{with_key}
+use Rattle.queue_record.specs.Records.{AreBlanks, may_end_before, IsWordBefore, IsNextWord}
 use Rattle.queue_record.proofs.KeyWords.{key_word_is, key_at_is}
 
 pub first_and_rest : (a b : Bool) → (a && b) ≡ true → (a ≡ true) × (b ≡ true)

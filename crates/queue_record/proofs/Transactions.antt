@@ -1,5 +1,5 @@
 -- The text of a transaction is read as that transaction.
-use Rattle.std.proofs.Common.{◌≡◌, ◌≢◌, ◌⊎◌, inl, inr, leb, take, ℕ, zero, suc, ◌+◌, ◌-◌, ◌<◌, ◌≤◌, ◌==◌, ◌&&◌, ◌||◌, codes, not, Bool, true, false, cond, ltb, List, [], ◌∷◌, ◌++◌, length, Option, Some, None, Result, Ok, Err, refl, ap, sym, ◌∙◌, subst, arith, append_assoc, length-append}
+use Rattle.std.proofs.Common.{◌≡◌, ◌⊎◌, inl, inr, leb, take, ℕ, suc, ◌+◌, ◌-◌, ◌<◌, ◌≤◌, codes, Bool, true, false, cond, ltb, List, [], ◌∷◌, ◌++◌, length, Option, Some, None, Ok, refl, ap, sym, ◌∙◌, subst, arith, append_assoc, length-append}
 use Rattle.std.specs.Option.{option_map}
 use Rattle.std.specs.Str.{IsUtf8}
 use Rattle.std.proofs.lemmas.Bool.{leb-true, leb-false}
@@ -11,7 +11,7 @@ use Rattle.queue_tx.specs.Operations.{Operation}
 use Rattle.queue_tx.specs.Printable.{IsPrintable}
 use Rattle.queue_tx.specs.Queues.{KeyedAds, queue_after}
 use Rattle.queue_record.specs.Entries.{Entry, begins, ends, does, entry_at}
-use Rattle.queue_record.specs.ReadSoFar.{ReadSoFar, refused, counted, goes_on, takes_in, after_entry, after_line, with_bytes, kept_all, fed, HasNoNewline}
+use Rattle.queue_record.specs.ReadSoFar.{ReadSoFar, refused, counted, goes_on, takes_in, after_entry, with_bytes, kept_all, fed, HasNoNewline}
 use Rattle.queue_record.specs.declared.error.RecordError.TheVariants.{TooLong}
 use Rattle.queue_record.specs.Records.{IsShort, Record}
 use Rattle.queue_record.specs.Texts.{op_line, ops_text, tx_text, is_long, first_long, AreTexts}

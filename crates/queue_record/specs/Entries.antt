@@ -1,5 +1,5 @@
 -- What a line of a log says, as a function of its bytes.
-use Rattle.std.specs.Prelude.{ℕ, ◌&&◌, not, nat_le, nat_eq, Bool, List, [], ◌∷◌, length, codes, Option, Some, None, option_map, option_and_then, Result, Ok, Err, if◌then◌else◌}
+use Rattle.std.specs.Prelude.{ℕ, ◌&&◌, not, nat_le, nat_eq, Bool, List, [], length, codes, Option, Some, None, option_map, option_and_then, Result, Ok, Err, if◌then◌else◌}
 use Rattle.std.specs.Char.{is_ascii_digit}
 use Rattle.std.specs.List.{list_all}
 use Rattle.std.specs.Str.{bytes_eq, is_utf8}

@@ -1,7 +1,7 @@
 -- What a line of a log says (HTCondor manual, "The job queue log"), also in the forms that are read
 -- and never written: with tabs, with more blanks at the end or before an expression, a new ad
 -- without its words, text behind `106`, a line `107`.
-use Rattle.std.specs.Prelude.{◌≡◌, ◌≢◌, ◌≤◌, ◌<◌, ℕ, IsTrue, not, Bool, true, List, [], ◌∷◌, ◌++◌, length, codes}
+use Rattle.std.specs.Prelude.{◌≡◌, ◌≤◌, ◌<◌, ℕ, IsTrue, not, Bool, true, List, [], ◌∷◌, ◌++◌, length, codes}
 use Rattle.std.specs.Str.{IsUtf8}
 use Rattle.std.specs.List.{list_all}
 use Rattle.ad_tree.specs.Tree.{Tree}

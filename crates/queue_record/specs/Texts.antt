@@ -2,7 +2,6 @@
 use Rattle.std.specs.Prelude.{◌≡◌, ℕ, ◌+◌, ◌||◌, not, nat_lt, nat_le, Bool, true, List, [], ◌∷◌, ◌++◌, length, codes, Option, Some, None, option_map, if◌then◌else◌}
 use Rattle.std.specs.Str.{IsUtf8}
 use Rattle.ad_value.specs.Bytes.{code}
-use Rattle.ad_tree.specs.Tree.{Tree}
 use Rattle.ad_parse.specs.Canon.{canon}
 use Rattle.queue_tx.specs.Operations.{Operation, new_ad, destroy_ad, set_attr, delete_attr}
 use Rattle.queue_record.specs.declared.entry.TheConstants.{MAX_LINE}

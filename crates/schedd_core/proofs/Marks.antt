@@ -25,7 +25,7 @@ use Rattle.queue_tx.specs.declared.kind.JobKind.{JobKind}
 use Rattle.queue_tx.specs.Keys.{key_cmp, key_cmp_total, same_key, is_above}
 use Rattle.queue_tx.specs.Kinds.{kind_of}
 use Rattle.queue_tx.specs.Periodic.{has_periodic, is_periodic, IsPeriodic}
-use Rattle.queue_tx.specs.Queues.{KeyedAds, IsQueue, ad_at, queue_after}
+use Rattle.queue_tx.specs.Queues.{KeyedAds, ad_at, queue_after}
 use Rattle.queue_tx.proofs.Queues.{exact_keys}
 use Rattle.queue_tx.proofs.Transactions.{same_keys}
 use Rattle.schedd_plan.specs.declared.plan.JobPlan.{JobPlan}
@@ -34,7 +34,7 @@ use Rattle.schedd_plan.specs.declared.reason.Reason.{Reason}
 use Rattle.schedd_plan.specs.Plans.{job_of, plan_ops}
 use Rattle.schedd_plan.specs.JobAttributes.{reason_text}
 use Rattle.schedd_state.specs.DueChecks.{was_checked, IsPassedTo, IsPassed, Passes, with_new}
-use Rattle.schedd_core.specs.Logging.{after_plan, finished, reopened, IsReopened}
+use Rattle.schedd_core.specs.Logging.{after_plan, reopened, IsReopened}
 use Rattle.schedd_state.specs.Reopening.{IsReader}
 use Rattle.schedd_state.specs.Schedds.{ScheddValue, IsOpened}
 use Rattle.schedd_core.specs.ScheddParts.{IsFitting, IsOrdered}

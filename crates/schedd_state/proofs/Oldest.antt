@@ -1,9 +1,6 @@
 -- Of the jobs with a periodic expression the one that was looked at the longest ago.
 use Rattle.std.proofs.Common.{◌≡◌, ◌⊎◌, inl, inr, ℕ, ◌+◌, ◌<◌, ◌≤◌, Bool, true, false, cond, List, [], ◌∷◌, Option, Some, None, is_some, refl, ap, sym, ◌∙◌, subst, arith}
-use Rattle.std.specs.Prelude.{find}
-use Rattle.std.specs.declared.cmp.Ordering.{Ordering}
-use Rattle.std.specs.declared.cmp.Ordering.TheVariants.{Less, Equal, Greater}
-use Rattle.std.specs.declared.ops.Bound.{Bound}
+use Rattle.std.specs.declared.cmp.Ordering.TheVariants.{Less, Equal}
 use Rattle.std.specs.declared.ops.Bound.TheVariants.{Excluded, Unbounded}
 use denote.Ref.{Bor}
 use Rattle.std.specs.Ordering.{is_lt, is_gt}
@@ -16,7 +13,7 @@ use Rattle.queue_tx.specs.Periodic.{is_periodic, IsPeriodic}
 use Rattle.queue_tx.specs.Queues.{KeyedAds, ad_at}
 use Rattle.queue_tx.proofs.Transactions.{same_keys}
 use Rattle.schedd_state.specs.declared.looks.Look.{Look}
-use Rattle.schedd_state.specs.DueChecks.{checked_at, was_checked, IsOldestPeriodic, OldestPeriodic}
+use Rattle.schedd_state.specs.DueChecks.{checked_at, IsOldestPeriodic, OldestPeriodic}
 use Rattle.schedd_state.specs.Looks.{look_cmp, look_cmp_total, IsLookOf, IsFirstLook}
 use Rattle.schedd_state.proofs.Free.{after_or_equal}
 use Rattle.schedd_state.proofs.Fresh.{less_from}

@@ -11,7 +11,7 @@ use Rattle.ad_tree.proofs.AdLemmas.{other_way}
 use Rattle.submit_lines.specs.declared.line.LineFault.{LineFault}
 use Rattle.submit_lines.specs.declared.line.LineFault.TheVariants as fault
 use Rattle.submit_lines.specs.Lines as meaning
-use Rattle.submit_lines.specs.Lines.{LineResult, line_of, trimmed_line, plus_line, plus_with, attribute_line, plain_line, named_line, named_with, queue_line, word_line, value_of, ends_at}
+use Rattle.submit_lines.specs.Lines.{LineResult, line_of, plus_line, plus_with, attribute_line, plain_line, named_with, word_line, value_of, ends_at}
 use Rattle.submit_lines.specs.Names.{is_reserved, is_unsupported, macro_name, after_name, past_my}
 use Rattle.submit_file.specs.declared.setting.Setting.{Setting}
 use Rattle.submit_file.specs.Settings.{with_setting}

@@ -13,7 +13,7 @@ use Rattle.line_text.proofs.OneRefusal.{one_refusal}
 use Rattle.submit_lines.specs.declared.line.LineFault.{LineFault}
 use Rattle.submit_lines.specs.declared.queue.Queue.{Queue}
 use Rattle.submit_lines.specs.Lines as meaning
-use Rattle.submit_lines.specs.Lines.{LineMeaning, LineResult, line_of}
+use Rattle.submit_lines.specs.Lines.{LineResult, line_of}
 use Rattle.submit_lines.specs.Queue.{queue_of}
 use Rattle.submit_file.specs.declared.error.SubmitError.{SubmitError}
 use Rattle.submit_file.specs.declared.error.SubmitError.TheVariants as error

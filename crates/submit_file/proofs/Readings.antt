@@ -8,7 +8,7 @@ use Rattle.submit_lines.specs.declared.line.LineFault.{LineFault}
 use Rattle.submit_lines.specs.declared.line.SubmitLine.{SubmitLine}
 use Rattle.submit_lines.specs.declared.queue.Queue.{Queue}
 use Rattle.submit_lines.specs.Lines as meaning
-use Rattle.submit_lines.specs.Lines.{LineResult, line_result_of, line_of}
+use Rattle.submit_lines.specs.Lines.{line_result_of, line_of}
 use Rattle.submit_lines.specs.Queue.{queue_of}
 use Rattle.submit_file.specs.declared.error.SubmitError.{SubmitError}
 use Rattle.submit_file.specs.declared.file.FileSoFar.{FileSoFar}

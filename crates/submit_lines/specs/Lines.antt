@@ -1,6 +1,6 @@
 -- What a line of a submit file says (HTCondor manual, "Submitting a job").
 use Rattle.ad_value.specs.Bytes.{code}
-use Rattle.std.specs.Prelude.{ℕ, ◌==◌, ◌&&◌, ◌||◌, not, nat_eq, Bool, List, length, drop, codes, slice_index, slice_get, true, Option, Some, None, Result, Ok, Err, if◌then◌else◌}
+use Rattle.std.specs.Prelude.{ℕ, ◌==◌, ◌&&◌, not, nat_eq, Bool, List, length, drop, codes, slice_index, slice_get, true, Option, Some, None, Result, Ok, Err, if◌then◌else◌}
 use Rattle.std.specs.Option.{option_map_or}
 use Rattle.ad_value.specs.Names.{same_name}
 use Rattle.ad_token.specs.Lexing.{is_blank}

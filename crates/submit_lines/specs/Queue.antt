@@ -5,7 +5,6 @@ use Rattle.std.specs.List.{list_any, slice_split}
 use Rattle.ad_token.specs.Lexing.{is_blank}
 use Rattle.ad_token.specs.Blanks.{trimmed_text}
 use Rattle.submit_lines.specs.declared.queue.Queue.{Queue}
-use Rattle.submit_lines.specs.declared.queue.Over.{Over}
 use Rattle.submit_lines.specs.Names.{macro_name, after_name, is_in, is_variable}
 use Rattle.submit_lines.specs.Numbers.{decimal}
 use Rattle.submit_lines.specs.Arguments.{between}

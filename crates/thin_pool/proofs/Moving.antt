@@ -1,5 +1,5 @@
 -- Each event of a pool makes its abstract steps, and each pool of a history is safe.
-use Rattle.std.proofs.Common.{◌≡◌, ◌≢◌, ℕ, ◌+◌, ◌<◌, ◌≤◌, ◌⊎◌, inl, inr, List, [], ◌∷◌, ◌++◌, map, filter, Option, Some, None, Bool, true, false, true≢false, ◌&&◌, ◌==◌, not, max, refl, sym, ◌∙◌, ap, subst, arith, append_assoc, eq-eqb, if◌then◌else◌, IfSome, IsSome, IsSomeAnd, is_some}
+use Rattle.std.proofs.Common.{◌≡◌, ◌≢◌, ℕ, ◌+◌, ◌<◌, ◌≤◌, inl, inr, List, [], ◌∷◌, ◌++◌, map, filter, Option, Some, None, Bool, true, false, true≢false, ◌&&◌, ◌==◌, not, max, refl, sym, ◌∙◌, ap, subst, arith, append_assoc, if◌then◌else◌, IfSome, IsSome, IsSomeAnd, is_some}
 use Rattle.std.specs.Prelude.{nat_lt, option_map}
 use Rattle.std.specs.List.{filter_map}
 use Rattle.std.proofs.lemmas.List.{append-nil}

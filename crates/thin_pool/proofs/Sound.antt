@@ -1,5 +1,5 @@
 -- What holds of every pool is kept by each event.
-use Rattle.std.proofs.Common.{◌≡◌, ◌<◌, ◌≤◌, ◌⊎◌, List, [], ◌∷◌, IsSomeAnd, sym, subst, None}
+use Rattle.std.proofs.Common.{◌≡◌, List, [], ◌∷◌, IsSomeAnd, sym, subst, None}
 use Rattle.pool_view.specs.AbstractPool.{AbstractPool, SameView, IsSpentAt}
 use Rattle.pool_view.specs.AbstractStep.{AbstractStep, view_after, Takes}
 use Rattle.pool_view.specs.Safe.{RunsSpent}

@@ -1,10 +1,8 @@
 -- The abstract pool that a pool stands for.
 use Rattle.std.specs.Prelude.{ℕ, suc, List, [], map, Option, Some, None, option_map}
 use Rattle.std.specs.List.{filter_map}
-use Rattle.claim_id.specs.declared.numbers.RunNo.{RunNo}
 use Rattle.claim_id.specs.declared.numbers.JobId.{JobId}
 use Rattle.claim_id.specs.declared.numbers.SlotId.{SlotId}
-use Rattle.claim_id.specs.declared.numbers.ClaimNo.{ClaimNo}
 use Rattle.pool_mail.specs.declared.end.End.{End}
 use Rattle.pool_mail.specs.declared.end.End.TheVariants as «end»
 use Rattle.pool_mail.specs.declared.end.How.{How}

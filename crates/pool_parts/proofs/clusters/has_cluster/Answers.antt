@@ -1,4 +1,4 @@
-use Rattle.std.proofs.Common.{◌≡◌, Some, None, ap, sym, ◌∙◌}
+use Rattle.std.proofs.Common.{Some, None, sym, ◌∙◌}
 use Rattle.pool_parts.proofs.InClusters.{above_tells, first_is_there}
 use Rattle.pool_parts.proofs.clusters.has_cluster.Goals as goal
 

@@ -1,5 +1,5 @@
-use Rattle.std.proofs.Common.{◌≡◌, true, refl, sym, ◌∙◌, ap, subst, inl, inr, arith}
-use Rattle.pool_parts.specs.Clusters.{cluster_after, clusters_on, first_cluster, is_used}
+use Rattle.std.proofs.Common.{◌≡◌, true, sym, ◌∙◌, ap, subst, inl, inr, arith}
+use Rattle.pool_parts.specs.Clusters.{cluster_after, first_cluster, is_used}
 use Rattle.pool_parts.proofs.InClusters.{none_used, one_on, one_used}
 use Rattle.pool_parts.proofs.clusters.next_cluster.Goals as goal
 

@@ -1,4 +1,4 @@
-use Rattle.std.proofs.Common.{◌≡◌, Some, None, ap, sym, ◌∙◌}
+use Rattle.std.proofs.Common.{Some, None, sym, ◌∙◌}
 use Rattle.pool_parts.proofs.InClusters.{entries_tell}
 use Rattle.pool_parts.proofs.clusters.was_cluster.Goals as goal
 

@@ -1,5 +1,5 @@
 -- The size so far, with the ads above the last key, is the size of all.
-use Rattle.std.proofs.Common.{◌≡◌, ◌+◌, ◌≤◌, min, length, option_map}
+use Rattle.std.proofs.Common.{◌≡◌, ◌+◌, ◌≤◌, min, length}
 use Rattle.std.specs.Option.{option_copied}
 use Rattle.pool_parts.specs.Sizes.{queue_count}
 use Rattle.pool_parts.proofs.Walks.{rest_of}

@@ -1,5 +1,4 @@
-use Rattle.std.proofs.Common.{◌≡◌, ◌<◌, ◌++◌, ap, ◌∙◌, length, List, arith}
-use Rattle.ad_tree.specs.Ad.{Attributes}
+use Rattle.std.proofs.Common.{◌≡◌, ◌<◌, ◌++◌, ap, ◌∙◌, length, List}
 use Rattle.startd_slot.specs.declared.slot.Slot.{Slot}
 use Rattle.pool_shown.specs.Slots.{ads_of}
 use Rattle.pool_shown.proofs.AdsInOrder.{next_startd}

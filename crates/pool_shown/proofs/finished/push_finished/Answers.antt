@@ -1,4 +1,4 @@
-use Rattle.std.proofs.Common.{◌∙◌, Some, None}
+use Rattle.std.proofs.Common.{◌∙◌}
 use Rattle.pool_shown.proofs.DoneJobs.{all_to_come, fewer_more, none_more, one_more}
 use Rattle.pool_shown.proofs.finished.push_finished.Goals as goal
 

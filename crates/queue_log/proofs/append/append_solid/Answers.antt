@@ -1,6 +1,6 @@
-use Rattle.std.proofs.Common.{◌≡◌, ◌∙◌, ◌≤◌, ◌++◌, List, ℕ, arith, ap, sym, take, length}
+use Rattle.std.proofs.Common.{◌∙◌, arith, ap}
 use Rattle.pool_outer.specs.Files.{bytes_in, Leaves}
-use Rattle.queue_log.specs.Moments.{IsReached, LeavesOnly}
+use Rattle.queue_log.specs.Moments.{IsReached}
 use Rattle.queue_log.proofs.Moments.{begins, goes_on, reached_before, reached_after, leaves_fewer}
 use Rattle.queue_log.proofs.append.append_solid.Goals as goal
 

@@ -1,7 +1,6 @@
-use Rattle.std.proofs.Common.{◌≡◌, ◌∙◌, ◌≤◌, ◌⊎◌, inl, inr, List, ℕ, arith, ap, sym, take, length}
-use Rattle.pool_outer.specs.Files.{bytes_in, Leaves}
-use Rattle.queue_log.specs.Moments.{LeavesOnly}
-use Rattle.queue_log.proofs.Moments.{begins, goes_on}
+use Rattle.std.proofs.Common.{◌⊎◌, inl}
+use Rattle.pool_outer.specs.Files.{Leaves}
+use Rattle.queue_log.proofs.Moments.{begins}
 use Rattle.queue_log.proofs.cut.cut_behind.Goals as goal
 
 pub returns-clause-any_moment : goal.returns-clause-any_moment

@@ -1,4 +1,4 @@
-use Rattle.std.proofs.Common.{◌≡◌, None, Some, refl, sym, ◌∙◌, arith}
+use Rattle.std.proofs.Common.{refl, sym, ◌∙◌, arith}
 use Rattle.queue_record.specs.Entries.{entry}
 use Rattle.queue_record.proofs.RecordLemmas.{read_is_record, record_is_read}
 use Rattle.queue_record.proofs.entry.read_line.Goals as goal

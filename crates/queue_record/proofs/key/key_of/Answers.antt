@@ -1,4 +1,4 @@
-use Rattle.std.proofs.Common.{rules, refl, sym}
+use Rattle.std.proofs.Common.{refl, sym}
 use Rattle.queue_record.proofs.KeyWords.{key_at_header, key_at_job, key_at_none}
 use Rattle.queue_record.proofs.key.key_of.Goals as goal
 

@@ -1,4 +1,4 @@
-use Rattle.std.proofs.Common.{rules, arith, ◌∙◌}
+use Rattle.std.proofs.Common.{arith, ◌∙◌}
 use Rattle.queue_record.proofs.Feeding.{counted_is}
 use Rattle.queue_record.proofs.reader.counted_all.Goals as goal
 

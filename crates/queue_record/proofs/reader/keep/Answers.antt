@@ -1,4 +1,4 @@
-use Rattle.std.proofs.Common.{◌≡◌, ◌-◌, ◌++◌, ◌∙◌, ap, length, List, ℕ}
+use Rattle.std.proofs.Common.{◌-◌, ◌++◌, ◌∙◌, ap, length, List, ℕ}
 use Rattle.queue_record.proofs.Feeding.{kept_is, kept_if_ok}
 use Rattle.queue_record.proofs.reader.keep.Goals as goal
 

@@ -1,4 +1,4 @@
-use Rattle.std.proofs.Common.{◌≡◌, ◌++◌, ◌&&◌, ◌==◌, true, get_or, take, drop, ap, sym, ◌∙◌, subst, arith, IsCharBoundary}
+use Rattle.std.proofs.Common.{true, sym, ◌∙◌, subst, arith, IsCharBoundary}
 use Rattle.submit_lines.proofs.Boundaries.{past_pair, stop_boundary}
 use Rattle.submit_lines.proofs.Pieces.{plain_at}
 use Rattle.submit_lines.proofs.arguments.next_piece.Goals as goal

@@ -1,5 +1,5 @@
-use Rattle.std.proofs.Common.{◌≡◌, ap, sym, ◌∙◌, List, ℕ}
-use Rattle.queue_record.specs.ReadSoFar.{ReadSoFar, fed, after_line, with_bytes}
+use Rattle.std.proofs.Common.{ap, sym, ◌∙◌}
+use Rattle.queue_record.specs.ReadSoFar.{ReadSoFar, fed}
 use Rattle.queue_record.proofs.Feeding.{fed_line, fed_bytes, fed_refused, gives_along}
 use Rattle.queue_record.proofs.reader.Reader.go_on_with.Goals as goal
 

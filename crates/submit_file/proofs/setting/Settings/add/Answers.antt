@@ -1,4 +1,4 @@
-use Rattle.std.proofs.Common.{◌∙◌, ap, sym, string_bytes, rules}
+use Rattle.std.proofs.Common.{◌∙◌, ap, string_bytes, rules}
 use Rattle.std.specs.List.{list_any}
 use Rattle.std.specs.Str.{bytes_eq}
 use Rattle.submit_file.specs.Settings.{lowercase_names}
