@@ -1,6 +1,7 @@
 -- Pieces of a text, one after the other.
-use Rattle.std.proofs.Common.{◌≡◌, ℕ, List, [], ◌∷◌, ◌++◌, Option, Some, None, IfSome, decimal, refl, sym, ◌∙◌, append_assoc}
+use Rattle.std.proofs.Common.{◌≡◌, ℕ, List, [], ◌∷◌, ◌++◌, Option, Some, None, IfSome, decimal, refl, ap, sym, ◌∙◌, append_assoc}
 use Rattle.claim_id.specs.declared.numbers.ClaimId.{ClaimId}
+use Rattle.claim_id.specs.declared.numbers.ClaimNo.{ClaimNo}
 use Rattle.claim_id.specs.declared.numbers.JobId.{JobId}
 use Rattle.claim_id.specs.declared.numbers.SlotId.{SlotId}
 use Rattle.claim_id.specs.Texts.{claim_no_text, claim_text, job_text, secret_text, slot_text}
@@ -39,3 +40,17 @@ slot_text-from_pieces s text one two rest machine slot first second third a b = 
 pub claim_text-pieces : (c : ClaimId) → claim_text c ≡ 60 ∷ (decimal c.no.slot.machine ++ 58 ∷ (decimal c.no.slot.slot ++ 62 ∷ 35 ∷ (decimal c.no.boot ++ 35 ∷ (decimal c.no.seq ++ 35 ∷ secret_text c.secret))))
 unfolding claim_text claim_no_text slot_text
 claim_text-pieces c = simp append_assoc
+
+pub claim_no_text-pieces : (c : ClaimNo) (rest : List ℕ) → claim_no_text c ++ 35 ∷ rest ≡ slot_text c.slot ++ 35 ∷ (decimal c.boot ++ 35 ∷ (decimal c.seq ++ 35 ∷ rest))
+unfolding claim_no_text
+claim_no_text-pieces c rest = simp append_assoc
+
+-- a claim's number, by its parts
+abbrev claim_no_of : SlotId → ℕ → ℕ → ClaimNo
+claim_no_of slot boot seq = record { slot = slot; boot = boot; seq = seq }
+
+pub same_claim_no : (c : ClaimNo) (slot : SlotId) (boot seq : ℕ) → slot ≡ c.slot → boot ≡ c.boot → seq ≡ c.seq → claim_no_of slot boot seq ≡ c
+same_claim_no c slot boot seq same_slot same_boot same_seq =
+    ap (λ s. claim_no_of s boot seq) same_slot
+    ∙ ap (λ b. claim_no_of c.slot b seq) same_boot
+    ∙ ap (claim_no_of c.slot c.boot) same_seq
