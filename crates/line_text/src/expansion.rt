@@ -61,9 +61,7 @@ pub fn expand(alloc: Global, text: &str, table: &MacroTable) -> Result<Text, Mac
     ensures refused { IfErr result (IsRefused table.now text.now) }
 {
     let mut expansion = Expansion::new(alloc, text, table)?;
-    while let Some(current) = expansion.suspended.pop() {
-        expansion.go_on(alloc, current)?;
-    }
+    expansion.run(alloc)?;
     Ok(expansion.written.join(alloc)?)
 }
 
@@ -86,6 +84,21 @@ impl<'a> Expansion<'a> {
             suspended: vec![in alloc; given]?,
             written: Written::new(alloc),
         })
+    }
+
+    // Goes on until no text is left.
+    fn run(&mut self, alloc: Global) -> Result<(), MacroError>
+        requires { IsSound self.old }
+        ensures sound { OnOk result (IsSound self.new) }
+        ensures ended { OnOk result (self.new.suspended.items ≡ []) }
+        ensures given { self.new.given.now ≡ self.old.given.now }
+        ensures table { self.new.table.now ≡ self.old.table.now }
+        ensures refused { IfErr result (IsRefused self.old.table.now self.old.given.now) }
+    {
+        while let Some(current) = self.suspended.pop() {
+            self.go_on(alloc, current)?;
+        }
+        Ok(())
     }
 
     // Goes on with a text up to its next reference, or to its end.
