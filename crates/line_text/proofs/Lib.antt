@@ -8,6 +8,7 @@ pub mod Left
 pub mod LineLemmas
 pub mod Pieces
 pub mod Progresses
+pub mod Results
 pub mod Steps
 pub mod Stretches
 pub mod TableLemmas

@@ -8,7 +8,7 @@ ghost use Rattle.line_text.specs.UnderWay.{frame_of, frames, begun_frame, IsSoun
 
 use crate::error::MacroError;
 use crate::reference::{Next, cut, reference};
-use crate::table::{MacroTable, lowercase};
+use crate::table::MacroTable;
 use crate::written::Written;
 use ad_value::Text;
 use std::alloc::{AllocError, Global};
@@ -165,13 +165,9 @@ impl<'a> Expansion<'a> {
         ensures table { self.new.table.now ≡ self.old.table.now }
         ensures refused { IfErr result (IsRefused self.old.table.now self.old.given.now) }
     {
-        let key = lowercase(alloc, name)?;
-        match self.table.find(key.as_str()) {
+        match self.table.look_up(alloc, name)? {
             Some((place, value)) => self.put_in(alloc, current, name, rest, place, value),
-            None => {
-                self.begin(Suspended { rest, ..current }, default, None)?;
-                Ok(())
-            }
+            None => self.begin(Suspended { rest, ..current }, default, None),
         }
     }
 
@@ -201,8 +197,7 @@ impl<'a> Expansion<'a> {
         match self.progress[place] {
             Progress::Untouched => {
                 self.progress[place] = Progress::Open;
-                self.begin(Suspended { rest, ..current }, value, Some(place))?;
-                Ok(())
+                self.begin(Suspended { rest, ..current }, value, Some(place))
             }
             Progress::Open => Err(MacroError::Circular {
                 name: Text::from_str(alloc, name)?,
@@ -221,7 +216,7 @@ impl<'a> Expansion<'a> {
         waiting: Suspended<'a>,
         text: &'a str,
         place: Option<usize>,
-    ) -> Result<(), AllocError>
+    ) -> Result<(), MacroError>
         ensures begun { OnOk result (
             frames self.new.suspended.items
             ≡ begun_frame text.entry.now place (length self.old.written)
@@ -230,6 +225,7 @@ impl<'a> Expansion<'a> {
         ensures table { self.new.table.now ≡ self.old.table.now }
         ensures progress { self.new.progress.items ≡ self.old.progress.items }
         ensures written { self.new.written ≡ self.old.written }
+        ensures refused { IfErr result (IsRefused self.old.table.now self.old.given.now) }
     {
         let from = self.written.count();
         self.suspended.push(waiting)?;

@@ -72,9 +72,19 @@ impl MacroTable {
         put(&mut self.entries, name, value)
     }
 
-    /// The place of a name that is given in lower case, from 0, and its value, without memory.
-    /// Computes in O(bytes of the name) where names do not collide.
-    pub(crate) fn find(&self, name: &str) -> Option<(usize, &str)>
+    /// The place of a name, from 0, and its value. Computes in O(bytes of the name) where names do
+    /// not collide.
+    pub(crate) fn look_up(&self, alloc: Global, name: &str) -> Result<Option<(usize, &str)>, Memory>
+        ensures value { IfOk result (λ found.
+            option_map (λ f. (f.0, f.1.now)) found ≡ find_macro (lowercase name.now) self.now) }
+        ensures within { IfOk result (λ found. IfSome found (λ f. f.0 < length self.now)) }
+    {
+        let name = lowercase(alloc, name)?;
+        Ok(self.find(name.as_str()))
+    }
+
+    // The same of a name that is given in lower case, without memory.
+    fn find(&self, name: &str) -> Option<(usize, &str)>
         ensures value { option_map (λ f. (f.0, f.1.now)) result ≡ find_macro name.now self.now }
         ensures within { IfSome result (λ f. f.0 < length self.now) }
     {
@@ -86,7 +96,7 @@ impl MacroTable {
 }
 
 /// A name in lower case. Computes in O(bytes).
-pub(crate) fn lowercase(alloc: Global, name: &str) -> Result<String, Memory>
+fn lowercase(alloc: Global, name: &str) -> Result<String, Memory>
     ensures { IfOk result (λ l. string_bytes l ≡ lowercase name.now) }
 {
     Ok(name.to_ascii_lowercase(alloc)?)
