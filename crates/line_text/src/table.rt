@@ -121,8 +121,24 @@ impl Copied for MacroTable {
     fn copy(&self, alloc: Global) -> Result<MacroTable, Memory> {
         let mut entries = IndexMap::new(alloc);
         for (name, value) in self.entries.iter() {
-            put(&mut entries, name.clone()?, value.copy(alloc)?)?;
+            put_copy(alloc, &mut entries, name, value)?;
         }
         Ok(MacroTable { entries })
     }
+}
+
+// Puts an equal value under an equal name.
+fn put_copy(
+    alloc: Global,
+    entries: &mut IndexMap<String, Text>,
+    name: &String,
+    value: &Text,
+) -> Result<(), Memory>
+    ensures { OnOk result (
+        macros_of entries.new.entries
+        ≡ with_macro (string_bytes name.now) value.now (macros_of entries.old.entries)) }
+{
+    let name = name.clone()?;
+    let value = value.copy(alloc)?;
+    put(entries, name, value)
 }

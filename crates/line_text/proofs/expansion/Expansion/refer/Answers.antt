@@ -1,5 +1,4 @@
-use Rattle.std.proofs.Common.{◌≡◌, None, arith, ap, sym, ◌∙◌}
-use Rattle.line_text.specs.Macros.{find_macro}
+use Rattle.std.proofs.Common.{◌≡◌, None, arith, ap, sym}
 use Rattle.line_text.specs.Expansion.{macro_of}
 use Rattle.line_text.specs.UnderWay.{frame_of, frames, left_of, work}
 use Rattle.line_text.proofs.Frames.{refers_shorter}

@@ -14,7 +14,5 @@ loop-name-preserved c =
     let more = macros_of c.next.new.self in
     let left = rest_more deref_pair c.loop-name.name-iterator c.next.new.self c.next.result (c.in-Some.name, c.in-Some.value) c.in-Some.is c.next.ensures.steps in
     let whole : done ++ (name, value) ∷ more ≡ c.args.self.now = sym (ap (λ l. done ++ macros_of l) left) ∙ c.loop-name.invariant in
-    let cloned : string_bytes c.in_ok-clone.field-0 ≡ name = c.in_ok-clone.ensures.cases in
-    let put : macros_of c.put.new.entries.entries ≡ with_macro name value done =
-    c.in_ok-put.ensures.ok ∙ (λ i. with_macro (cloned i) (c.in_ok-copy.ensures i) done) in
+    let put : macros_of c.put_copy.new.entries.entries ≡ with_macro name value done = c.in_ok-put_copy.ensures in
     ap (λ l. l ++ more) put ∙ copied_more done (name, value) more c.args.self.now whole (subst AreDistinct c.self.view_is (distinct_from c.self.inside.entries.entries c.iter-name-items.ensures.unique))
