@@ -311,3 +311,6 @@ places-grown x e t u ks n shown same is at less =
 -- a place before the end has something
 pub not_past : (ad : Attributes) (k : ℕ) → k < length ad → None ≡ slice_get ad k → ⊥
 not_past ad k less none = none_some (none ∙ slice_get-get_or ad k ([], items no_trees) less)
+
+pub IsAdOver-same : (t u : Attributes) (ks ls : List ℕ) → u ≡ t → ls ≡ ks → IsAdOver t ks → IsAdOver u ls
+IsAdOver-same t u ks ls p q ok = subst (λ v. IsAdOver v ls) (sym p) (subst (IsAdOver t) (sym q) ok)

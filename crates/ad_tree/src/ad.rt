@@ -3,7 +3,7 @@ ghost use Rattle.std.specs.Option.{option_map};
 
 use crate::places::{all_places, own_place, table_place};
 use crate::shared::SharedTable;
-use crate::table::Table;
+use crate::table::{Table, refuse};
 use crate::tree::Expr;
 use ad_value::{Copied, Memory, Seq};
 use std::alloc::Global;
@@ -159,14 +159,10 @@ impl Ad {
         ensures full { IsErrOf result SetError.Full ↔ IsFullFor name.now self.old }
         ensures err { OnErr result (self.new ≡ self.old) }
     {
-        if self.is_full_for(name) {
-            return Err(SetError::Full);
+        match self.make_ready(alloc, name) {
+            Ok(()) => Ok(self.set_alone(alloc, name, expr)?),
+            Err(error) => Err(error),
         }
-        if !self.is_alone() {
-            *self = self.alone_copy(alloc)?;
-        }
-        self.set_alone(alloc, name, expr)?;
-        Ok(())
     }
 
     /// Takes a name out, if it is there, without memory; the rest keeps its order. Computes in
@@ -195,6 +191,28 @@ impl Ad {
         ensures { self.new ≡ self.old }
     {
         self.table.is_unshared() && self.table.len() == self.places.len()
+    }
+
+    // Makes it stand alone, where the name can be set.
+    fn make_ready(&mut self, alloc: Global, name: &str) -> Result<(), SetError>
+        ensures full { IsErrOf result SetError.Full ↔ IsFullFor name.now self.old }
+        ensures same { self.new ≡ self.old }
+    {
+        if self.is_full_for(name) {
+            return Err(SetError::Full);
+        }
+        self.stand_alone(alloc)?;
+        Ok(())
+    }
+
+    // Makes it stand alone. An error leaves it as it was.
+    fn stand_alone(&mut self, alloc: Global) -> Result<(), Memory>
+        ensures { self.new ≡ self.old }
+    {
+        if !self.is_alone() {
+            *self = self.alone_copy(alloc)?;
+        }
+        Ok(())
     }
 
     // An equal ad that stands alone, with memory for one attribute more.
@@ -231,7 +249,7 @@ impl Ad {
     {
         let len = self.places.len();
         if self.table.len() != len {
-            return Err(Memory);
+            return refuse(expr);
         }
         self.places.reserve(1)?;
         self.table.put(alloc, name, expr)?;

@@ -4,7 +4,7 @@ ghost use Rattle.std.specs.Arc.{arc_value};
 ghost use Rattle.ad_tree.specs.Ad.{with_attribute, IsFullFor};
 ghost use Rattle.ad_tree.specs.Tree.{tree};
 
-use crate::table::Table;
+use crate::table::{Table, refuse};
 use crate::tree::Expr;
 use ad_value::{Copied, Memory};
 use std::alloc::Global;
@@ -101,7 +101,7 @@ impl SharedTable {
     {
         match &mut self.table {
             Some(table) => put_unshared(table, alloc, name, expr),
-            None => Err(Memory),
+            None => refuse(expr),
         }
     }
 }
@@ -128,7 +128,7 @@ fn put_unshared(
 {
     match Arc::get_mut(table) {
         Some(table) => table.put(alloc, name, expr),
-        None => Err(Memory),
+        None => refuse(expr),
     }
 }
 

@@ -1,4 +1,4 @@
-ghost use Rattle.std.specs.Prelude.{◌≡◌, ◌≤◌, [], length, slice_get, IfOk, OnOk, OnErr};
+ghost use Rattle.std.specs.Prelude.{◌≡◌, ◌≤◌, [], length, slice_get, IfOk, IsErr, OnOk, OnErr};
 ghost use Rattle.std.specs.Option.{option_map};
 ghost use Rattle.ad_tree.specs.Ad.{named_trees, with_attribute};
 ghost use Rattle.ad_tree.specs.Tree.{tree};
@@ -106,7 +106,16 @@ fn put_entry(
         attributes[place] = expr;
         return Ok(());
     }
-    let name = Name::new(alloc, name)?;
+    let Ok(name) = Name::new(alloc, name) else {
+        return refuse(expr);
+    };
     attributes.insert(name, expr)?;
     Ok(())
+}
+
+// Drops an expression that cannot be put, as if memory had run out.
+pub(crate) fn refuse(_expr: Expr) -> Result<(), Memory>
+    ensures { IsErr result }
+{
+    Err(Memory)
 }
