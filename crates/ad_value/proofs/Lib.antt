@@ -1,3 +1,4 @@
 mod ContentLemmas
 mod FoldLemmas
 pub mod LiteralLemmas
+pub mod ValueLemmas

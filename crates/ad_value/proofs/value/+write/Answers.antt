@@ -5,6 +5,7 @@ use Rattle.ad_value.specs.Content.{content, contents_of}
 use Rattle.ad_value.specs.Literal.{literal_text, items_text, item_separator}
 use Rattle.ad_value.proofs.ContentLemmas.{contents-map}
 use Rattle.ad_value.proofs.LiteralLemmas.{items_text_more}
+use Rattle.ad_value.proofs.ValueLemmas.{items_written}
 use Rattle.ad_value.proofs.value.+write.Goals as goal
 
 pub ValueList::write-loop-i-preserved : goal.ValueList::write-loop-i-preserved
@@ -15,3 +16,6 @@ ValueList::write-loop-i-preserved t c =
 pub ValueList::write-returns : goal.ValueList::write-returns
 ValueList::write-returns t c =
     c.loop-i.invariant ∙ ap (λ cs. string_bytes c.args.text.now ++ items_text (contents_of cs)) (ap (map content) (take_all c.loop-i.i c.args.self.now.items.items (omega arith)) ∙ sym (contents-map c.args.self.now))
+
+pub Value::write-returns-in_ok-push_str-in-List-2 : goal.Value::write-returns-in_ok-push_str-in-List-2
+Value::write-returns-in_ok-push_str-in-List-2 t c = items_written _ _ _ _ _ _ c.in-List.is c.in_ok-push_str-in-List.ensures.bytes c.in_ok-write-in-List.ensures c.in_ok-push_str-in-List-2.ensures.bytes
