@@ -11,7 +11,7 @@ use Rattle.ad_tree.specs.declared.tree.Expr.TheVariants.{Lit, Ref, Unary, Chain,
 use Rattle.ad_tree.specs.declared.tree.ExprList.{ExprList, roll-ExprList}
 use Rattle.ad_tree.specs.declared.tree.Rest.{Rest}
 use Rattle.ad_tree.specs.declared.tree.RestList.{RestList, roll-RestList}
-use Rattle.ad_tree.specs.Tree.{Tree, literal, reference, unary, chain, choice, or_else, call, items, tree, trees, rest, rests, trees_of, rests_of}
+use Rattle.ad_tree.specs.Tree.{literal, reference, unary, chain, choice, or_else, call, items, tree, trees, rest, rests, trees_of, rests_of}
 use Rattle.ad_tree.proofs.TreeLemmas.{tree_literal, tree_reference, tree_unary, tree_chain, tree_choice, tree_or_else, tree_call, tree_items, map-more}
 
 -- a copy of an expression has copies of its parts

@@ -1,8 +1,8 @@
 -- When two expressions are the same, by what both are.
-use Rattle.std.proofs.Common.{◌≡◌, ◌↔◌, ℕ, List, map, length, Option, Some, None, Bool, true, false, true≢false, Box, Global, refl, ap, sym, subst, ◌∙◌, rules}
+use Rattle.std.proofs.Common.{◌≡◌, ◌↔◌, ℕ, List, map, length, Option, Some, None, Bool, false, true≢false, Box, Global, ap, sym, subst, ◌∙◌}
 use Rattle.std.proofs.lemmas.List.{length-map}
 use Rattle.std.specs.Bool.{IsTrue}
-use Rattle.ad_value.specs.Content.{Content, content}
+use Rattle.ad_value.specs.Content.{content}
 use Rattle.ad_value.specs.declared.value.Value.{Value}
 use Rattle.ad_tree.specs.declared.operator.Scope.{Scope}
 use Rattle.ad_tree.specs.declared.operator.UnOp.{UnOp}
@@ -12,7 +12,7 @@ use Rattle.ad_tree.specs.declared.tree.Expr.TheVariants.{Lit, Ref, Unary, Chain,
 use Rattle.ad_tree.specs.declared.tree.ExprList.{ExprList}
 use Rattle.ad_tree.specs.declared.tree.Rest.{Rest}
 use Rattle.ad_tree.specs.declared.tree.RestList.{RestList}
-use Rattle.ad_tree.specs.Tree.{Tree, literal, reference, unary, chain, choice, or_else, call, items, RestTree, tree, trees, rest, rests, tree_step, trees_step, rest_step, rests_step, trees_of, rests_of}
+use Rattle.ad_tree.specs.Tree.{Tree, literal, reference, unary, chain, choice, or_else, call, items, RestTree, tree, trees, rest, rests, tree_step, trees_step, rest_step, rests_step, trees_of}
 use Rattle.ad_tree.proofs.TreeLemmas.{tree_literal, tree_reference, tree_unary, tree_chain, tree_choice, tree_or_else, tree_call, tree_items, call-injective, items-injective, chain-injective}
 
 -- an expression with its parts as they are

@@ -24,7 +24,6 @@ pub fn own_place(places: &[u8], there: usize) -> Option<usize>
 }
 
 /// All places of a table of so many attributes, and memory for one more. Computes in O(places).
-#[tactic(auto, using(crate::proofs::PlacesLemmas::range_push))]
 pub fn all_places(alloc: Global, count: usize) -> Result<Vec<u8>, Memory>
     requires { count ≤ MAX_ATTRIBUTES }
     ensures { IfOk result (λ places. places.items ≡ range_with_len 0 count) }

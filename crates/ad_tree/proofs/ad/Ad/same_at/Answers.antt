@@ -1,5 +1,5 @@
 -- What stands at a place is the same where name and expression are.
-use Rattle.std.proofs.Common.{◌≡◌, sym, ◌∙◌, refl, true≢false}
+use Rattle.std.proofs.Common.{sym, ◌∙◌, refl, true≢false}
 use Rattle.std.specs.Cmp.Lexicographic.{bytes_decides}
 use Rattle.ad_tree.specs.Tree.{tree}
 use Rattle.ad_tree.proofs.SameLemmas.{never, both_hold, first_fails, same_entries, some_none}
