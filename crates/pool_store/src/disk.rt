@@ -1,7 +1,8 @@
 //! Files of the system.
-ghost use Rattle.std.specs.Prelude.{◌≡◌, ◌≢◌, ◌≤◌, ◌<◌, ℕ, List, true, false, IfOk, MatchOption, length, vec_len, vec_capacity};
-ghost use Rattle.pool_outer.specs.Cause.{Rose};
-ghost use Rattle.pool_outer.specs.Files.{is_named};
+ghost use Rattle.std.specs.Prelude.{◌≡◌, ◌≢◌, ◌≤◌, ◌<◌, ℕ, List, true, false, Ok, IfOk, IsErrOf, MatchOption, length, vec_len, vec_capacity};
+ghost use Rattle.pool_outer.specs.declared.store.StoreError.TheVariants.{Failed};
+ghost use Rattle.pool_outer.specs.Cause.{HasCause, Rose};
+ghost use Rattle.pool_outer.specs.Files.{Learns, is_named};
 
 mod written;
 
@@ -75,6 +76,31 @@ impl<R: Files + Drop> DiskStore<R> {
         }
     }
 
+    // What a call that makes a name known is answered by, where it came to that.
+    fn answer<T: Drop>(
+        &mut self,
+        name: &str,
+        new: Option<Text>,
+        outcome: io::Result<T>,
+    ) -> Result<T, StoreError>
+        requires { MatchOption new (is_named self.old.known.items name.now ≡ true)
+            (λ text. (text ≡ name.now) × (vec_len self.old.known < vec_capacity self.old.known)) }
+        ensures value { IfOk result (λ value. outcome ≡ Ok value) }
+        ensures known { Learns name.now (is_named self.old.known.items)
+            (is_named self.new.known.items) result }
+        ensures missing { IsErrOf result StoreError.Missing
+            → is_named self.old.known.items name.now ≡ false }
+        ensures cause { HasCause Failed self.old.faults self.new.faults result }
+    {
+        match outcome {
+            Ok(value) => {
+                self.learn(name, new);
+                Ok(value)
+            }
+            Err(error) => Err(self.refusal(name, &error)),
+        }
+    }
+
     // The file isn't known to be there any more.
     fn forget(&mut self, name: &str)
         ensures forgotten { is_named self.new.known.items name.now ≡ false }
@@ -141,13 +167,8 @@ impl<R: Files + Drop> Store for DiskStore<R> {
 
     fn size(&mut self, alloc: Global, name: &str) -> Result<u64, StoreError> {
         let new = self.room_for(alloc, name)?;
-        match fs::metadata(&self.rt, name) {
-            Ok(data) => {
-                self.learn(name, new);
-                Ok(data.len())
-            }
-            Err(error) => Err(self.refusal(name, &error)),
-        }
+        let size = size_of(&self.rt, name);
+        self.answer(name, new, size)
     }
 
     fn read_at(
@@ -158,13 +179,8 @@ impl<R: Files + Drop> Store for DiskStore<R> {
         into: &mut [u8],
     ) -> Result<usize, StoreError> {
         let new = self.room_for(alloc, name)?;
-        match read_from(&self.rt, name, place, into) {
-            Ok(count) => {
-                self.learn(name, new);
-                Ok(count)
-            }
-            Err(error) => Err(self.refusal(name, &error)),
-        }
+        let count = read_from(&self.rt, name, place, into);
+        self.answer(name, new, count)
     }
 
     // A known file that isn't there any more isn't made anew.
@@ -181,24 +197,14 @@ impl<R: Files + Drop> Store for DiskStore<R> {
 
     fn sync(&mut self, alloc: Global, name: &str) -> Result<(), StoreError> {
         let new = self.room_for(alloc, name)?;
-        match sync_file(&self.rt, alloc, &mut self.last, name) {
-            Ok(()) => {
-                self.learn(name, new);
-                Ok(())
-            }
-            Err(error) => Err(self.refusal(name, &error)),
-        }
+        let synced = sync_file(&self.rt, alloc, &mut self.last, name);
+        self.answer(name, new, synced)
     }
 
     fn cut(&mut self, alloc: Global, name: &str, size: u64) -> Result<(), StoreError> {
         let new = self.room_for(alloc, name)?;
-        match cut_file(&self.rt, alloc, &mut self.last, name, size) {
-            Ok(()) => {
-                self.learn(name, new);
-                Ok(())
-            }
-            Err(error) => Err(self.refusal(name, &error)),
-        }
+        let cut = cut_file(&self.rt, alloc, &mut self.last, name, size);
+        self.answer(name, new, cut)
     }
 
     fn rename(&mut self, alloc: Global, from: &str, to: &str) -> Result<(), StoreError> {
@@ -216,6 +222,10 @@ impl<R: Files + Drop> Store for DiskStore<R> {
             Err(error) => Err(self.failure(&error)),
         }
     }
+}
+
+fn size_of<R: Files>(rt: &R, name: &str) -> io::Result<u64> {
+    Ok(fs::metadata(rt, name)?.len())
 }
 
 fn read_from<R: Files>(rt: &R, name: &str, place: u64, into: &mut [u8]) -> io::Result<usize>
