@@ -72,6 +72,10 @@ unfolding level_at
 level_is p zero ts = refl
 level_is p (suc l) ts = let e : suc l - 1 ≡ l = omega arith in rw (e, eqb-suc-zero) refl
 
+pub level_more : (p : Read Tree) (l : ℕ) (ts us : List Placed) (e : Tree) → 0 < l → level_at p (l - 1) ts ≡ Ok (e, us) → level_at p l ts ≡ chain_from (level_at p (l - 1)) l e us
+level_more p zero ts us e pos h = absurd (omega arith)
+level_more p (suc l) ts us e pos h = level_is p (suc l) ts ∙ rw eqb-suc-zero (ap (λ r. r >>= (λ x. chain_from (level_at p (suc l - 1)) (suc l) x.0 x.1)) h)
+
 pub operand_prefixed : (end n : ℕ) (p : Placed) (ts : List Placed) (op : UnOp) → 0 < n → prefix_of p.token ≡ Some op → operand_at end n (p ∷ ts) ≡ prefix_at (operand_at end (n - 1)) op ts
 operand_prefixed end zero p ts op pos h = absurd (omega arith)
 operand_prefixed end (suc n) p ts op pos h =
@@ -166,8 +170,8 @@ module _ (p : Read Tree) (l n : ℕ) (ts us : List Placed) (rs : List (BinOp × 
   pub rests_fail : (op : BinOp) → infix_at l ts ≡ Some (op, us) → (f : ParseError) → p us ≡ Err f → total ≡ Err f
   rests_fail op h f got = so_far ∙ ap (after_rests rs) (more_rests op h ∙ ap (λ r. r >>= (λ x. rests_at p l (n - 1) x.1 >>= (λ y. Ok (and_rest op x.0 y.0, y.1)))) got)
 
-  pub rests_end : infix_at l ts ≡ None → total ≡ Ok (rests_of rs, ts)
-  rests_end h = so_far ∙ ap (after_rests rs) (rests_none p l n ts h) ∙ ap (λ z. Ok (z, ts)) (join_rests-none rs)
+  pub rests_end : (ys : List (BinOp × Tree)) → ys ≡ rs → infix_at l ts ≡ None → total ≡ Ok (rests_of ys, ts)
+  rests_end ys same h = so_far ∙ ap (after_rests rs) (rests_none p l n ts h) ∙ ap (λ z. Ok (z, ts)) (join_rests-none rs ∙ ap rests_of (sym same))
 
 after_trees-join : (es : List Tree) (e : Tree) (r : Result (Trees × List Placed) ParseError) → after_trees es (r >>= (λ y. Ok (and_tree e y.0, y.1))) ≡ after_trees (es ++ e ∷ []) r
 after_trees-join es e (Err f) = refl

@@ -1,9 +1,11 @@
 -- A function of the program gives what reading gives, unless memory runs out.
 use Rattle.std.specs.Prelude.{◌≡◌, ◌≤◌, List, length, Result, Ok, Err, IfOk}
 use Rattle.std.specs.Borrow.{Bor}
+use Rattle.std.specs.Global.{Box}
 use Rattle.ad_tree.specs.declared.tree.Expr.{Expr}
 use Rattle.ad_tree.specs.declared.tree.ExprList.{ExprList}
-use Rattle.ad_tree.specs.Tree.{Tree, Trees, tree, trees, trees_of}
+use Rattle.ad_tree.specs.declared.tree.RestList.{RestList}
+use Rattle.ad_tree.specs.Tree.{Tree, Trees, Rests, tree, trees, trees_of, rests, rests_of}
 use Rattle.ad_token.specs.declared.token.Placed.{Placed}
 use Rattle.ad_parse.specs.declared.error.ParseError.{ParseError}
 use Rattle.ad_parse.specs.declared.error.ParseError.TheVariants.{TooLong, Real, Range, TooDeep, Syntax, Memory}
@@ -28,8 +30,14 @@ ParseResult X = Result (X × Bor (List Placed)) ParseError
 abbrev pub GivesTree : ParseResult Expr → ReadResult Tree → Type 0
 GivesTree read given = Gives (λ x. (tree x.0, x.1.now)) read given
 
+abbrev pub GivesBox : ParseResult (Box Expr) → ReadResult Tree → Type 0
+GivesBox read given = Gives (λ x. (tree x.0.value, x.1.now)) read given
+
 abbrev pub GivesTrees : ParseResult ExprList → ReadResult Trees → Type 0
 GivesTrees read given = Gives (λ x. (trees_of (trees x.0), x.1.now)) read given
+
+abbrev pub GivesRests : ParseResult RestList → ReadResult Rests → Type 0
+GivesRests read given = Gives (λ x. (rests_of (rests x.0), x.1.now)) read given
 
 -- no more tokens are left than there were
 abbrev pub LeavesWithin : {X : Type 0} → List Placed → ParseResult X → Type 0

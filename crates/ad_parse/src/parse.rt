@@ -1,11 +1,11 @@
 // From tokens to a tree: one position that only moves forward.
 
-ghost use Rattle.std.specs.Prelude.{◌≡◌, ◌<◌, ◌≤◌, ◌+◌, IfOk, Ok};
+ghost use Rattle.std.specs.Prelude.{◌≡◌, ◌<◌, ◌≤◌, ◌-◌, length, IfOk, Ok};
 ghost use Rattle.ad_tree.specs.Tree.{Tree, tree, rests, rests_of};
 ghost use Rattle.ad_parse.specs.Grammar.{IsText};
-ghost use Rattle.ad_parse.specs.Reader.{text_at, choice_at, branches_at, or_else_at, level_at, chain_of, chain_from, prefix_at, primary_at, primary_by, brackets_at, list_at, name_at, call_by, open_at, items_at, items_from};
+ghost use Rattle.ad_parse.specs.Reader.{text_at, choice_at, branches_at, or_else_at, level_at, rests_at, chain_of, prefix_at, primary_at, primary_by, brackets_at, list_at, name_at, call_by, open_at, items_at, items_from};
 ghost use Rattle.ad_parse.specs.Parser.{condition_of, operand_of};
-ghost use Rattle.ad_parse.specs.Gives.{Gives, GivesTree, GivesTrees, LeavesWithin, Holds};
+ghost use Rattle.ad_parse.specs.Gives.{Gives, GivesTree, GivesBox, GivesTrees, GivesRests, LeavesWithin, Holds};
 
 use crate::error::ParseError;
 use crate::first_tokens::{
@@ -89,6 +89,17 @@ impl Parser {
         }
     }
 
+    // A condition, in a box.
+    #[cycle(parse)]
+    fn parse_boxed(self, tokens: &[Placed]) -> Result<(Box<Expr>, &[Placed]), ParseError>
+        ensures value { GivesBox result (condition_of self tokens.now) }
+        ensures shorter { LeavesWithin tokens.now result }
+    {
+        let (expr, rest) = self.parse_condition(tokens)?;
+        let expr = Box::new(self.alloc, expr)?;
+        Ok((expr, rest))
+    }
+
     // The two branches after a question mark.
     #[cycle(parse)]
     fn parse_branches(self, test: Expr, tokens: &[Placed]) -> Result<(Expr, &[Placed]), ParseError>
@@ -96,12 +107,10 @@ impl Parser {
             branches_at self.end (condition_of self) (tree test) tokens.now) }
         ensures shorter { LeavesWithin tokens.now result }
     {
-        let (yes, rest) = self.parse_condition(tokens)?;
-        let rest = pass_colon(self.end, rest)?;
-        let (no, rest) = self.parse_condition(rest)?;
         let test = Box::new(self.alloc, test)?;
-        let yes = Box::new(self.alloc, yes)?;
-        let no = Box::new(self.alloc, no)?;
+        let (yes, rest) = self.parse_boxed(tokens)?;
+        let rest = pass_colon(self.end, rest)?;
+        let (no, rest) = self.parse_boxed(rest)?;
         Ok((Expr::Cond { test, yes, no }, rest))
     }
 
@@ -111,9 +120,8 @@ impl Parser {
         ensures value { GivesTree result (or_else_at (condition_of self) (tree first) tokens.now) }
         ensures shorter { LeavesWithin tokens.now result }
     {
-        let (other, rest) = self.parse_condition(tokens)?;
         let first = Box::new(self.alloc, first)?;
-        let other = Box::new(self.alloc, other)?;
+        let (other, rest) = self.parse_boxed(tokens)?;
         Ok((Expr::OrElse { first, other }, rest))
     }
 
@@ -129,31 +137,32 @@ impl Parser {
             return self.parse_operand(tokens);
         }
         let (first, rest) = self.parse_level(loosest - 1, tokens)?;
-        self.parse_rests(loosest - 1, first, rest)
+        let (list, rest) = self.parse_rests(loosest, rest)?;
+        let whole = chain_of(self.alloc, first, list)?;
+        Ok((whole, rest))
     }
 
-    // The operand, and those that follow it after operators of the level above.
+    // Operators of the level, each with its operand.
     #[cycle(parse)]
     fn parse_rests(
         self,
-        tighter: usize,
-        first: Expr,
+        level: usize,
         tokens: &[Placed],
-    ) -> Result<(Expr, &[Placed]), ParseError>
-        requires { tighter < LOOSEST }
-        ensures value { GivesTree result (
-            chain_from (level_at (operand_of self) tighter) (tighter + 1) (tree first) tokens.now) }
+    ) -> Result<(RestList, &[Placed]), ParseError>
+        requires some { 0 < level }
+        requires most { level ≤ LOOSEST }
+        ensures value { GivesRests result (rests_at
+            (level_at (operand_of self) (level - 1)) level (length tokens.now) tokens.now) }
         ensures shorter { LeavesWithin tokens.now result }
     {
         let mut items = Vec::new(self.alloc);
         let mut rest = tokens;
-        while let Some((op, after)) = infix_at(rest, tighter + 1) {
-            let (arg, after) = self.parse_level(tighter, after)?;
+        while let Some((op, after)) = infix_at(rest, level) {
+            let (arg, after) = self.parse_level(level - 1, after)?;
             items.push(Rest { op, arg })?;
             rest = after;
         }
-        let whole = chain_of(self.alloc, first, RestList { items })?;
-        Ok((whole, rest))
+        Ok((RestList { items }, rest))
     }
 
     // An operand with the operators before it.

@@ -1,11 +1,11 @@
 -- What the loops of reading several operands or items give.
-use Rattle.std.proofs.Common.{◌≡◌, ◌++◌, ◌+◌, ◌-◌, ◌≤◌, ◌∷◌, [], Ok, map, length, sym, ap, ◌∙◌, arith, rules, Some, None}
+use Rattle.std.proofs.Common.{◌≡◌, ◌++◌, ◌+◌, ◌-◌, ◌≤◌, ◌∷◌, [], Ok, map, length, sym, ap, subst, ◌∙◌, arith, rules, Some, None}
 use Rattle.std.proofs.lemmas.Result.{err_from_is_err_and}
 use Rattle.std.proofs.lemmas.List.{map_push}
-use Rattle.ad_tree.specs.Tree.{tree, rest, rests, rests_of}
+use Rattle.ad_tree.specs.Tree.{tree, rest, rests}
 use Rattle.ad_tree.specs.declared.tree.Expr.{the_lemmas}
 use Rattle.ad_tree.specs.declared.tree.RestList.{roll-RestList}
-use Rattle.ad_parse.specs.Reader.{◌>>=◌, level_at, operand_at, cond_at, rests_at, infix_at, chain_of, comma_at, more_items_at}
+use Rattle.ad_parse.specs.Reader.{level_at, operand_at, cond_at, rests_at, infix_at, comma_at, more_items_at}
 use Rattle.ad_parse.proofs.Steps.{fails_on, fails_with, after_rests, after_trees, infix_shorter, comma_shorter, rests_fail, rests_turn, rests_end, items_fail, items_turn, items_end, items_open}
 use Rattle.ad_parse.proofs.parse.Parser.+parse.Goals as goal
 
@@ -13,28 +13,26 @@ pub parse_rests-returns-in_err-arg-clause-value : goal.parse_rests-returns-in_er
 parse_rests-returns-in_err-arg-clause-value t c =
     let p = err_from_is_err_and c.from_residual.result c.from_residual.ensures.1 in
     let i = c.loop-op.invariant in
-    let h : infix_at (c.args.tighter + 1) c.loop-op.rest.now ≡ Some (c.in-Some.op, c.in-Some.after.now) = search rules in
-    rw (p.1, p.2) (fails_on _ _ _ (λ f e. ap (λ r. r >>= (λ y. Ok (chain_of (tree c.args.first) y.0, y.1))) (rests_fail (level_at (operand_at c.args.self.end c.args.self.left) c.args.tighter) (c.args.tighter + 1) i.0 c.loop-op.rest.now c.in-Some.after.now (map rest c.loop-op.items.items) _ i.1 i.2 c.in-Some.op h f e)) c.in_err-arg.ensures.value)
+    let h : infix_at c.args.level c.loop-op.rest.now ≡ Some (c.in-Some.op, c.in-Some.after.now) = search rules in
+    rw (p.1, p.2) (fails_on _ _ _ (rests_fail (level_at (operand_at c.args.self.end c.args.self.left) (c.args.level - 1)) c.args.level i.0 c.loop-op.rest.now c.in-Some.after.now (map rest c.loop-op.items.items) _ i.1 i.2 c.in-Some.op h) c.in_err-arg.ensures.value)
 
 pub parse_rests-loop-op-preserved : goal.parse_rests-loop-op-preserved
 parse_rests-loop-op-preserved t c =
     let i = c.loop-op.invariant in
-    let h : infix_at (c.args.tighter + 1) c.loop-op.rest.now ≡ Some (c.in-Some.op, c.in-Some.after.now) = search rules in
-    let less : length c.in-Some.after.now + 1 ≤ length c.loop-op.rest.now = infix_shorter (c.args.tighter + 1) c.loop-op.rest.now c.in-Some.after.now c.in-Some.op h in
-    let got : level_at (operand_at c.args.self.end c.args.self.left) c.args.tighter c.in-Some.after.now ≡ Ok (tree c.in_ok-arg.arg, c.in_ok-arg.after.now) = c.in_ok-arg.ensures.value in
-    let turn = rests_turn (level_at (operand_at c.args.self.end c.args.self.left) c.args.tighter) (c.args.tighter + 1) i.0 c.loop-op.rest.now c.in-Some.after.now (map rest c.loop-op.items.items) _ i.1 i.2 c.in-Some.op (tree c.in_ok-arg.arg) c.in_ok-arg.after.now h got in
+    let operand = level_at (operand_at c.args.self.end c.args.self.left) (c.args.level - 1) in
+    let h : infix_at c.args.level c.loop-op.rest.now ≡ Some (c.in-Some.op, c.in-Some.after.now) = search rules in
+    let less : length c.in-Some.after.now + 1 ≤ length c.loop-op.rest.now = infix_shorter c.args.level c.loop-op.rest.now c.in-Some.after.now c.in-Some.op h in
+    let turn = rests_turn operand c.args.level i.0 c.loop-op.rest.now c.in-Some.after.now (map rest c.loop-op.items.items) _ i.1 i.2 c.in-Some.op (tree c.in_ok-arg.arg) c.in_ok-arg.after.now h c.in_ok-arg.ensures.value in
     let pushed : map rest c.push.new.self.items ≡ map rest c.loop-op.items.items ++ (c.in-Some.op, tree c.in_ok-arg.arg) ∷ [] = rw (c.in_ok-push.ensures.items, map_push) (search (rules, the_lemmas)) in
     let shorter = c.in_ok-arg.ensures.shorter in
-    (i.0 - 1, omega (arith, i.1), turn ∙ ap (λ rs. after_rests rs (rests_at (level_at (operand_at c.args.self.end c.args.self.left) c.args.tighter) (c.args.tighter + 1) (i.0 - 1) c.in_ok-arg.after.now)) (sym pushed), omega (arith, i.3), i.4)
+    (i.0 - 1, omega (arith, i.1), subst (λ rs. rests_at operand c.args.level (length c.args.tokens.now) c.args.tokens.now ≡ after_rests rs (rests_at operand c.args.level (i.0 - 1) c.in_ok-arg.after.now)) (sym pushed) turn, omega (arith, i.3))
 
 pub parse_rests-returns-clause-value : goal.parse_rests-returns-clause-value
 parse_rests-returns-clause-value t c =
     let i = c.loop-op.invariant in
-    let h : infix_at (c.args.tighter + 1) c.loop-op.rest.now ≡ None = search rules in
-    let all = rests_end (level_at (operand_at c.args.self.end c.args.self.left) c.args.tighter) (c.args.tighter + 1) i.0 c.loop-op.rest.now [] (map rest c.loop-op.items.items) _ i.1 i.2 h in
-    let made : tree c.in_ok-whole.whole ≡ chain_of (tree c.args.first) (rests_of (rests (roll-RestList (record { items = c.loop-op.items })))) = rw (← i.4) c.in_ok-whole.ensures in
-    let seen : tree c.in_ok-whole.whole ≡ chain_of (tree c.args.first) (rests_of (map rest c.loop-op.items.items)) = made ∙ ap (chain_of (tree c.args.first)) (search (rules, the_lemmas)) in
-    ap (λ r. r >>= (λ y. Ok (chain_of (tree c.args.first) y.0, y.1))) all ∙ ap (λ e. Ok (e, c.loop-op.rest.now)) (sym seen)
+    let h : infix_at c.args.level c.loop-op.rest.now ≡ None = search rules in
+    let seen : rests (roll-RestList (record { items = c.loop-op.items })) ≡ map rest c.loop-op.items.items = search (rules, the_lemmas) in
+    rests_end (level_at (operand_at c.args.self.end c.args.self.left) (c.args.level - 1)) c.args.level i.0 c.loop-op.rest.now [] (map rest c.loop-op.items.items) _ i.1 i.2 _ seen h
 
 pub parse_more_conditions-returns-in_err-item-clause-value : goal.parse_more_conditions-returns-in_err-item-clause-value
 parse_more_conditions-returns-in_err-item-clause-value t c =
