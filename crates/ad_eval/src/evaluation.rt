@@ -107,7 +107,8 @@ impl<'a> Evaluation<'a> {
             (mean self.old side (tree no.now))) }
         ensures kept { OnOk result (self.new ≡ self.old) }
     {
-        match self.evaluate(side, test)?.truth() {
+        let truth = self.evaluate(side, test)?.truth();
+        match truth {
             Truth::True => self.evaluate(side, yes),
             Truth::False => self.evaluate(side, no),
             Truth::Undefined => Ok(Value::Undefined),
