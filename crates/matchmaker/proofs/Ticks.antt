@@ -1,5 +1,5 @@
 -- Ticks one after the other.
-use Rattle.std.proofs.Common.{rules, ◌≡◌, ◌≤◌, ◌<◌, ◌+◌, ◌-◌, ℕ, zero, suc, ap, sym, ◌∙◌, refl, arith}
+use Rattle.std.proofs.Common.{rules, ◌≡◌, ◌≤◌, ◌<◌, ◌+◌, ◌-◌, ℕ, zero, suc, ap, ◌∙◌, refl, arith}
 use Rattle.matchmaker.specs.declared.priority.TheConstants.{BEST, WORST}
 use Rattle.matchmaker.specs.declared.standing.TheConstants.{MAX_SLOTS}
 use Rattle.matchmaker.specs.Priority.{after_tick, priority_after}

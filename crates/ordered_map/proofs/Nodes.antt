@@ -1,5 +1,5 @@
 -- A tree whose entries are those of a node, by the order of a key and the node's.
-use Rattle.std.proofs.Common.{◌≡◌, ℕ, ◌<◌, length, arith, length-append, Bool, true, false, cond, refl, List, ◌∷◌, ◌++◌, Option, Some, None, ap, sym, ◌∙◌, subst}
+use Rattle.std.proofs.Common.{◌≡◌, ◌<◌, length, arith, length-append, true, false, cond, refl, List, ◌∷◌, ◌++◌, Option, Some, None, ap, sym, ◌∙◌, subst}
 use Rattle.std.specs.Prelude.{find}
 use Rattle.std.specs.Option.{option_or, option_map}
 use Rattle.std.proofs.lemmas.List.Folds.{find-append}

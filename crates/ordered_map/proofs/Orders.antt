@@ -1,19 +1,18 @@
 -- The order of the keys is kept, and what is past a bound.
-use Rattle.std.proofs.Common.{◌≡◌, Bool, true, false, not, cond, List, [], ◌∷◌, ◌++◌, Option, Some, None, refl, ap, sym, ◌∙◌}
+use Rattle.std.proofs.Common.{◌≡◌, Bool, true, false, not, cond, List, [], ◌∷◌, ◌++◌, Some, refl, ap, ◌∙◌}
 use Rattle.std.specs.Prelude.{find}
 use Rattle.std.specs.declared.cmp.Ordering.{Ordering}
 use Rattle.std.specs.declared.cmp.Ordering.TheVariants.{Less, Equal, Greater}
 use Rattle.std.specs.declared.ops.Bound.{Bound}
 use Rattle.std.specs.declared.ops.Bound.TheVariants.{Included, Excluded, Unbounded}
 use denote.Ref.{Bor}
-use Rattle.std.specs.Ordering.{is_eq, is_lt, is_gt, match_ordering}
+use Rattle.std.specs.Ordering.{is_lt, is_gt, match_ordering}
 use Rattle.std.specs.Cmp.{IsTotalOrder}
-use Rattle.std.specs.List.{AllByRecursion}
 use Rattle.std.specs.List.Sorted.{IsStrictlySortedBy}
-use Rattle.std.specs.Map.{lookup, remove_entry, keys_of}
-use Rattle.std.specs.BTreeMap.{insert_entry, is_at}
+use Rattle.std.specs.Map.{remove_entry, keys_of}
+use Rattle.std.specs.BTreeMap.{insert_entry}
 use Rattle.ordered_map.specs.Trees.{is_past}
-use Rattle.ordered_map.proofs.Splits.{KeysAll, IsSplit, split_at, greater_from_less, less_from_greater, above_a_less}
+use Rattle.ordered_map.proofs.Splits.{KeysAll, split_at, greater_from_less, less_from_greater, above_a_less}
 
 module _ {K V : Type 0} where
   pub sorted_none : (R : K → K → Ordering) (es : List (K × V)) → es ≡ [] → IsStrictlySortedBy R (keys_of es)

@@ -1,7 +1,6 @@
-use Rattle.std.proofs.Common.{◌≡◌, ◌<◌, ◌≤◌, ◌+◌, suc, List, length, map, Some, slice_get, refl, ap, sym, ◌∙◌, subst, arith}
-use Rattle.matchmaker.specs.declared.standing.Standing.{Standing}
+use Rattle.std.proofs.Common.{◌≡◌, List, length, map, slice_get, refl, ap, sym, ◌∙◌, subst, arith}
 use Rattle.indexmap.specs.IndexMap.{set_value_at}
-use Rattle.matchmaker.specs.Accounts.{IsStanding, AreUsers}
+use Rattle.matchmaker.specs.Accounts.{AreUsers}
 use Rattle.matchmaker.specs.Tables.{named_users, entry_after}
 use Rattle.matchmaker.proofs.Users.{later_upto, later-all, later-length, later-next, later-value, standing_at, named-later, users_later}
 use Rattle.matchmaker.proofs.table.advance_all.Goals as goal

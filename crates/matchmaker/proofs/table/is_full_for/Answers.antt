@@ -1,6 +1,6 @@
-use Rattle.std.proofs.Common.{◌≡◌, ◌↔◌, Bool, true, false, not, Option, Some, None, is_some, IsTrue, length, ap, sym, ◌∙◌, refl, subst}
+use Rattle.std.proofs.Common.{◌≡◌, true, not, Option, Some, None, is_some, IsTrue, length, ap, sym, ◌∙◌, refl, subst}
 use Rattle.matchmaker.specs.declared.accountant.TheConstants.{MAX_USERS}
-use Rattle.matchmaker.specs.Accounts.{lookup, IsFullFor}
+use Rattle.matchmaker.specs.Accounts.{lookup}
 use Rattle.matchmaker.specs.Tables.{named_users}
 use Rattle.matchmaker.proofs.Users.{lookup-named, length-named}
 use Rattle.matchmaker.proofs.table.is_full_for.Goals as goal

@@ -1,4 +1,4 @@
-use Rattle.std.proofs.Common.{◌≡◌, ap, sym, ◌∙◌, subst, IfSome}
+use Rattle.std.proofs.Common.{◌≡◌, sym, ◌∙◌, subst, IfSome}
 use Rattle.matchmaker.specs.Accounts.{lookup, IsStanding}
 use Rattle.matchmaker.specs.Tables.{named_users}
 use Rattle.matchmaker.proofs.Users.{lookup-named, standing_found}

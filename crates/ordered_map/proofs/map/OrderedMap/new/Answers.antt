@@ -1,6 +1,3 @@
-use Rattle.std.proofs.Common.{sym, subst}
-use Rattle.std.specs.List.Sorted.{IsStrictlySortedBy}
-use Rattle.std.specs.Map.{keys_of}
 use Rattle.ordered_map.proofs.Orders.{sorted_none}
 use Rattle.ordered_map.proofs.map.OrderedMap.new.Goals as goal
 
