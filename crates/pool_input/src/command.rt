@@ -34,13 +34,11 @@ fn run_command<'a>(alloc: Global) -> Result<Command<'a>, AllocError>
     ensures shape { IfOk result (λ c. shape_of c ≡ run_shape) }
     ensures local { IfOk result (λ c. (out-Command c).has_globals ≡ false) }
 {
-    let config = config_argument(alloc);
-    let submit = submit_argument(alloc);
     Command::new(alloc, RUN)
         .about("Runs a pool until nothing is left to do, and prints its user log")
         .disable_help_flag(true)
-        .arg(config)?
-        .arg(submit)
+        .arg(config_argument(alloc))?
+        .arg(submit_argument(alloc))
 }
 
 fn config_argument<'a>(alloc: Global) -> Arg<'a>
