@@ -1,6 +1,6 @@
-ghost use Rattle.std.specs.Prelude.{◌≡◌, IfOk, IfErr};
+ghost use Rattle.std.specs.Prelude.{◌≡◌, Option, IfOk, IfErr};
 ghost use Rattle.std.specs.Option.{option_map};
-ghost use Rattle.queue_tx.specs.Operations.{operation};
+ghost use Rattle.queue_tx.specs.Operations.{Operation, operation};
 ghost use Rattle.queue_record.specs.Entries.{begins, does, stamped, entry, entry_at, entry_by};
 ghost use Rattle.queue_record.specs.Records.{IsShort, IsRefused, Record};
 ghost use Rattle.queue_record.specs.Words.{at_end, first_word, past_word};
@@ -69,10 +69,10 @@ fn entry_behind(alloc: Global, code: &str, after: &str) -> Result<Option<LogEntr
     ensures { IfOk result (λ e. option_map entry e ≡ entry_by code.now after.now) }
 {
     match code {
-        "101" => Ok(as_entry(new_ad(alloc, after)?)),
-        "102" => Ok(as_entry(destroy_ad(after))),
-        "103" => Ok(as_entry(set_attr(alloc, after)?)),
-        "104" => Ok(as_entry(delete_attr(alloc, after)?)),
+        "101" => as_entry(new_ad(alloc, after)),
+        "102" => as_entry(Ok(destroy_ad(after))),
+        "103" => as_entry(set_attr(alloc, after)),
+        "104" => as_entry(delete_attr(alloc, after)),
         "105" => Ok(begin(after)),
         "106" => Ok(Some(LogEntry::End)),
         "107" => Ok(as_stamp(stamp(after))),
@@ -80,13 +80,15 @@ fn entry_behind(alloc: Global, code: &str, after: &str) -> Result<Option<LogEntr
     }
 }
 
-// The entry of an operation.
-fn as_entry(op: Option<Op>) -> Option<LogEntry>
-    ensures { option_map entry result ≡ option_map does (option_map operation op) }
+// The entry of an operation that was read.
+fn as_entry(read: Result<Option<Op>, Memory>) -> Result<Option<LogEntry>, Memory>
+    ensures { (said : Option Operation) → IfOk read (λ op. option_map operation op ≡ said)
+        → IfOk result (λ e. option_map entry e ≡ option_map does said) }
 {
-    match op {
-        Some(op) => Some(LogEntry::Operation(op)),
-        None => None,
+    match read {
+        Ok(Some(op)) => Ok(Some(LogEntry::Operation(op))),
+        Ok(None) => Ok(None),
+        Err(Memory) => Err(Memory),
     }
 }
 

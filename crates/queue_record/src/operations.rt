@@ -1,10 +1,10 @@
 // What the words behind the code of an operation say.
 
-ghost use Rattle.std.specs.Prelude.{◌≡◌, ◌≢◌, None, [], IfOk};
+ghost use Rattle.std.specs.Prelude.{◌≡◌, ◌≢◌, Some, None, [], IfOk};
 ghost use Rattle.std.specs.Option.{option_map};
 ghost use Rattle.ad_tree.specs.Tree.{tree};
 ghost use Rattle.ad_parse.specs.ExprText.{expression_at};
-ghost use Rattle.queue_tx.specs.Operations.{operation, new_ad};
+ghost use Rattle.queue_tx.specs.Operations.{operation, new_ad, set_attr};
 ghost use Rattle.queue_record.specs.Entries.{next_key, new_at, new_with, new_from, destroy_at, set_at, set_with, set_from, set_to, delete_at, delete_with, delete_from, tree_in};
 
 use crate::key::key_of;
@@ -40,7 +40,7 @@ fn new_ad_with(alloc: Global, key: Key, after: &str) -> Result<Option<Op>, Memor
     ensures { IfOk result (λ op. option_map operation op ≡ new_with key after.now) }
 {
     if are_blanks(after) {
-        return Ok(Some(new_ad_of(alloc, key, "", "")?));
+        return new_ad_of(alloc, key, "", "");
     }
     match next_word(after) {
         Some((kind, after)) => new_ad_from(alloc, key, kind, after),
@@ -52,22 +52,21 @@ fn new_ad_from(alloc: Global, key: Key, kind: &str, after: &str) -> Result<Optio
     ensures { IfOk result (λ op. option_map operation op ≡ new_from key kind.now after.now) }
 {
     if are_blanks(after) {
-        return Ok(Some(new_ad_of(alloc, key, kind, "")?));
+        return new_ad_of(alloc, key, kind, "");
     }
     match next_word(after) {
-        Some((other, after)) if are_blanks(after) => {
-            Ok(Some(new_ad_of(alloc, key, kind, other)?))
-        }
+        Some((other, after)) if are_blanks(after) => new_ad_of(alloc, key, kind, other),
         _ => Ok(None),
     }
 }
 
-fn new_ad_of(alloc: Global, key: Key, kind: &str, other: &str) -> Result<Op, Memory>
-    ensures { IfOk result (λ op. operation op ≡ new_ad key kind.now other.now) }
+fn new_ad_of(alloc: Global, key: Key, kind: &str, other: &str) -> Result<Option<Op>, Memory>
+    ensures { IfOk result
+        (λ op. option_map operation op ≡ Some (new_ad key kind.now other.now)) }
 {
     let kind = Text::from_str(alloc, kind)?;
     let other = Text::from_str(alloc, other)?;
-    Ok(Op::NewAd { key, kind, other })
+    Ok(Some(Op::NewAd { key, kind, other }))
 }
 
 // `102 KEY`.
@@ -115,13 +114,19 @@ fn set_attr_from(alloc: Global, key: Key, name: &str, after: &str) -> Result<Opt
 fn set_attr_to(alloc: Global, key: Key, name: &str, text: &str) -> Result<Option<Op>, Memory>
     ensures { IfOk result (λ op. option_map operation op ≡ set_to key name.now text.now) }
 {
-    match expression_in(alloc, text)? {
-        Some(expr) => {
-            let name = Text::from_str(alloc, name)?;
-            Ok(Some(Op::SetAttr { key, name, expr }))
-        }
-        None => Ok(None),
+    match expression_in(alloc, text) {
+        Ok(Some(expr)) => set_attr_of(alloc, key, name, expr),
+        Ok(None) => Ok(None),
+        Err(Memory) => Err(Memory),
     }
+}
+
+fn set_attr_of(alloc: Global, key: Key, name: &str, expr: Expr) -> Result<Option<Op>, Memory>
+    ensures { IfOk result
+        (λ op. option_map operation op ≡ Some (set_attr key name.now (tree expr))) }
+{
+    let name = Text::from_str(alloc, name)?;
+    Ok(Some(Op::SetAttr { key, name, expr }))
 }
 
 // The expression that a text says; none where it says none.

@@ -75,8 +75,7 @@ fn write_op(alloc: Global, text: &mut String, op: &Op) -> Result<bool, PrintErro
 {
     match op {
         Op::NewAd { key, kind, other } => {
-            write_code(text, "101 ", *key)?;
-            write_word(text, kind.as_str())?;
+            write_code_and_word(text, "101 ", *key, kind.as_str())?;
             write_word(text, other.as_str())?;
             Ok(true)
         }
@@ -85,13 +84,11 @@ fn write_op(alloc: Global, text: &mut String, op: &Op) -> Result<bool, PrintErro
             Ok(true)
         }
         Op::SetAttr { key, name, expr } => {
-            write_code(text, "103 ", *key)?;
-            write_word(text, name.as_str())?;
+            write_code_and_word(text, "103 ", *key, name.as_str())?;
             write_expression(alloc, text, expr)
         }
         Op::DeleteAttr { key, name } => {
-            write_code(text, "104 ", *key)?;
-            write_word(text, name.as_str())?;
+            write_code_and_word(text, "104 ", *key, name.as_str())?;
             Ok(true)
         }
     }
@@ -102,6 +99,19 @@ fn write_code(text: &mut String, code: &str, key: Key) -> Result<(), AllocError>
 {
     text.push_str(code)?;
     write_key(text, key)
+}
+
+fn write_code_and_word(
+    text: &mut String,
+    code: &str,
+    key: Key,
+    word: &str,
+) -> Result<(), AllocError>
+    ensures { OnOk result (AddsText text.old text.new
+        (code.now ++ key_text key ++ word_text word.now)) }
+{
+    write_code(text, code, key)?;
+    write_word(text, word)
 }
 
 fn write_word(text: &mut String, word: &str) -> Result<(), AllocError>
