@@ -1,6 +1,8 @@
-ghost use Rattle.std.specs.Prelude.{◌≡◌, ◌≢◌, ◌<◌, ◌≤◌, ◌++◌, ◌∷◌, [], length, Some, None, Ok, IsOk, IfOk, IfErr, IfSome, IsSomeAnd, MatchOption, OnOk, slice_get};
+ghost use Rattle.std.specs.Prelude.{◌≡◌, ◌≢◌, ◌<◌, ◌≤◌, ◌++◌, ◌∷◌, [], List, length, Some, None, Ok, IsOk, IfOk, IfErr, IfSome, IsSomeAnd, MatchOption, OnOk, slice_get};
 ghost use Rattle.pool_outer.specs.declared.limit.Which.TheVariants as which;
 ghost use Rattle.receipt_roll.specs.declared.roll.TheConstants.{MAX_ITEMS};
+ghost use Rattle.queue_record.specs.Texts.{first_long, tx_text};
+ghost use Rattle.queue_tx.specs.Operations.{Operation};
 ghost use Rattle.queue_tx.specs.Printable.{IsPrintable};
 ghost use Rattle.queue_tx.specs.Queues.{queue_after};
 ghost use Rattle.queue_log.specs.Logged.{IsBeyond, IsBeyondRefused, IsLogged, IsNext, IsOverLimit, IsReadyFor, IsTooMany, logged_receipt};
@@ -47,6 +49,26 @@ impl Drop for Ready {
 }
 
 impl Ready {
+    // What a transaction takes whose text is printed.
+    fn with_text(alloc: Global, text: Text, queue: &Queue, tx: &Tx) -> Result<Ready, LogError>
+        requires text { text ≡ tx_text tx.now }
+        requires fits { first_long tx.now ≡ None }
+        requires applies { IsOk (queue_after queue.now tx.now) }
+        ensures ready { IfOk result (IsReadyFor queue.now tx.now) }
+        ensures refused { (list : List (List Operation))
+            → IfErr result (IsOverLimit list tx.now) }
+    {
+        let copy = tx.copy(alloc)?;
+        match queue.prepare(alloc, tx) {
+            Ok(changes) => Ok(Ready {
+                text,
+                copy,
+                changes,
+            }),
+            Err(_) => Err(LogError::Memory),
+        }
+    }
+
     fn into_parts(self) -> (Tx, Prepared)
         ensures { result ≡ (self.copy, self.changes) }
     {
@@ -163,15 +185,7 @@ impl Logged {
         if let Err(error) = self.roll.room(1) {
             return Err(LogError::from(error));
         }
-        let copy = tx.copy(alloc)?;
-        match self.queue.prepare(alloc, tx) {
-            Ok(changes) => Ok(Ready {
-                text,
-                copy,
-                changes,
-            }),
-            Err(_) => Err(LogError::Memory),
-        }
+        Ready::with_text(alloc, text, &self.queue, tx)
     }
 
     // Logs a transaction for which all is ready, without memory.

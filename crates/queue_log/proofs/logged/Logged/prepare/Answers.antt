@@ -10,3 +10,6 @@ returns-in-Err-room-clause-refused c =
     (by_roll (λ e. IsOverLimit c.args.self.now.list c.args.tx.now e) c.in-Err-room.error
     (λ full. (c.in-Ok.ensures.fits, (let far = c.in-Err-room.ensures.full.0 (ap Err full) in omega arith)))
     tt)
+
+pub returns-clause-refused : goal.returns-clause-refused
+returns-clause-refused c = c.with_text.ensures.refused c.args.self.now.list
