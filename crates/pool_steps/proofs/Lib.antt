@@ -1,4 +1,5 @@
 pub mod Acting
 pub mod Clusters
 pub mod Posting
+pub mod Readying
 pub mod TooLarge
