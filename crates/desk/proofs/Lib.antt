@@ -12,3 +12,4 @@ pub mod Refused
 pub mod ScheddCourse
 pub mod SlotCourse
 pub mod StartdCourse
+pub mod Staying

@@ -1,10 +1,14 @@
-use Rattle.std.proofs.Common.{sym, ◌∙◌, ap, subst, [], List, ◌∷◌, ◌++◌}
+use Rattle.std.proofs.Common.{None, refl, sym, ◌∙◌, ap, subst, [], List, ◌∷◌, ◌++◌}
 use Rattle.desk.specs.Entries.{entry_of}
 use Rattle.desk.specs.Given.{IsGivenBy, IsOwn}
 use Rattle.desk.specs.Standing.{end_mark_of}
 use Rattle.desk.specs.declared.entry.Entry.{Entry}
-use Rattle.desk.specs.SolePasses.{SolePassValue}
+use Rattle.desk.specs.SolePasses.{SolePassValue, StandsHere}
 use Rattle.desk.proofs.Accepting.{Accepted, accepted, given_here}
+use Rattle.desk.proofs.Staying.{Stays, stays}
+use Rattle.pool_core.specs.Refused.{IsRefused}
+use Rattle.pool_rules.specs.Refusals.{IsRefusal}
+use Rattle.pool_state.specs.declared.state.PoolState.{PoolState}
 use Rattle.desk.proofs.pass.SolePass.act.Goals as goal
 
 -- what the accepted event makes of the pass, as it was
@@ -54,3 +58,71 @@ returns-in-Ok-clause-gained c = (now c).gained
 
 pub returns-in-Ok-clause-reacts : goal.returns-in-Ok-clause-reacts
 returns-in-Ok-clause-reacts c = (now c).reacts
+
+pub returns-in-Ok-clause-holder : goal.returns-in-Ok-clause-holder
+returns-in-Ok-clause-holder c = ap (λ (p : SolePassValue). p.holder) c.self.view_is
+
+pub returns-in-Ok-clause-accepted : goal.returns-in-Ok-clause-accepted
+returns-in-Ok-clause-accepted c = subst (λ (p : SolePassValue). IsRefusal c.args.event p.pool None) c.self.view_is c.in-Ok.ensures.accepted
+
+pub returns-in-Ok-clause-closed : goal.returns-in-Ok-clause-closed
+returns-in-Ok-clause-closed c = ap (λ (p : SolePassValue). p.closed) c.self.view_is
+
+-- where nothing was tried
+pub invariant_of-self : goal.invariant_of-self
+invariant_of-self c = subst (λ (xs : List Entry). StandsHere c.self.inside.holder xs c.self.inside.pool) (sym c.reserve.ensures.items) c.self.invariant
+
+pub returns-then-is_err : goal.returns-then-is_err
+returns-then-is_err c =
+    let pool = c.self.inside.pool in
+    let its = stays c.self.inside.holder c.reserve.new.self.items c.self.inside.entries.items c.self.inside.closed pool pool c.args.self.now c.reserve.ensures.items refl (sym c.self.view_is) in
+    record {
+      holder = its.holder;
+      first = its.first;
+      log_mark = its.log_mark;
+      end_mark = its.end_mark;
+      accepted = tt;
+      cause = λ other. absurd (other refl);
+      reacts = tt;
+      same = its.same;
+      kind = tt;
+      fits = tt;
+      appends = tt;
+      gained = tt;
+      queue = its.queue;
+      refused = its.refused;
+      closed = ap (λ (p : SolePassValue). p.closed) c.self.view_is;
+    }
+
+-- where the event was refused
+pub invariant_of-self-in-Err : goal.invariant_of-self-in-Err
+invariant_of-self-in-Err c =
+    let mine = subst (λ (xs : List Entry). StandsHere c.self.inside.holder xs c.self.inside.pool) (sym c.reserve.ensures.items) c.self.invariant in
+    subst (λ (s : PoolState). StandsHere c.self.inside.holder c.reserve.new.self.items s) (sym c.in-Err.ensures.same) mine
+
+its : (c : goal.After-drop-event-2) → Stays c.self.inside.holder c.reserve.new.self.items c.step.new.self c.args.self.now
+its c = stays c.self.inside.holder c.reserve.new.self.items c.self.inside.entries.items c.self.inside.closed c.step.new.self c.self.inside.pool c.args.self.now c.reserve.ensures.items c.in-Err.ensures.same (sym c.self.view_is)
+
+pub returns-clause-holder : goal.returns-clause-holder
+returns-clause-holder c = (its c).holder
+
+pub returns-clause-first : goal.returns-clause-first
+returns-clause-first c = (its c).first
+
+pub returns-clause-log_mark : goal.returns-clause-log_mark
+returns-clause-log_mark c = (its c).log_mark
+
+pub returns-clause-end_mark : goal.returns-clause-end_mark
+returns-clause-end_mark c = (its c).end_mark
+
+pub returns-clause-same : goal.returns-clause-same
+returns-clause-same c = (its c).same
+
+pub returns-clause-queue : goal.returns-clause-queue
+returns-clause-queue c = (its c).queue
+
+pub returns-clause-refused : goal.returns-clause-refused
+returns-clause-refused c = (its c).refused
+
+pub returns-clause-cause : goal.returns-clause-cause
+returns-clause-cause c = λ other. subst (λ (p : SolePassValue). IsRefused c.args.event p.pool c.in-Err.error) c.self.view_is (c.in-Err.ensures.refused other)
