@@ -71,12 +71,12 @@ fn entry_after(machines: &TextList, first: &str, rest: &[Text]) -> Option<Entry>
     ensures { (e : Entry) → (result ≡ Some e) ↔ SaysAfter machines.now first.now rest.now e }
 {
     match first {
-        "at" => Some(Entry::Order(order(rest)?)),
-        "lose" => Some(Entry::Lose(mail(rest)?)),
-        "repeat" => Some(Entry::Repeat(mail(rest)?)),
-        "late" => Some(Entry::Late(mail(rest)?)),
-        "crash" => Some(Entry::Crash(crash(machines, rest)?)),
-        "load" => Some(Entry::Load(load(rest)?)),
+        "at" => order(rest).map(Entry::Order),
+        "lose" => mail(rest).map(Entry::Lose),
+        "repeat" => mail(rest).map(Entry::Repeat),
+        "late" => mail(rest).map(Entry::Late),
+        "crash" => crash(machines, rest).map(Entry::Crash),
+        "load" => load(rest).map(Entry::Load),
         _ => None,
     }
 }
