@@ -1,4 +1,4 @@
-ghost use Rattle.std.specs.Prelude.{◌≡◌, ◌<◌, ◌^◌, ◌+◌, IfOk, string_bytes};
+ghost use Rattle.std.specs.Prelude.{◌≡◌, ◌<◌, ◌^◌, ◌+◌, ◌++◌, IfOk, string_bytes, decimal};
 ghost use Rattle.thin_pool.specs.Events.{reading_of};
 ghost use Rattle.thin_pool.specs.Reactions.{takes_number};
 ghost use Rattle.pool_input.specs.Readings.{IsInCalendar, AreReadings};
@@ -232,13 +232,21 @@ fn numbers(alloc: Global, cluster: usize, proc: usize) -> Result<String, Memory>
 fn three_digits(alloc: Global, n: usize) -> Result<String, Memory>
     ensures { IfOk result (λ t. string_bytes t ≡ three_digits n) }
 {
+    let zeros = zeros_before(n);
+    Ok(format!(in alloc; "{zeros}{n}")?)
+}
+
+// What makes three digits of a number that has fewer.
+fn zeros_before(n: usize) -> &'static str
+    ensures { result.now ++ decimal n ≡ three_digits n }
+{
     if n < 10 {
-        return Ok(format!(in alloc; "00{n}")?);
+        "00"
+    } else if n < 100 {
+        "0"
+    } else {
+        ""
     }
-    if n < 100 {
-        return Ok(format!(in alloc; "0{n}")?);
-    }
-    Ok(format!(in alloc; "{n}")?)
 }
 
 // The date and time of a reading, in UTC.
