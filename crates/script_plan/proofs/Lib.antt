@@ -2,6 +2,5 @@ pub mod ByTime
 pub mod LawLemmas
 pub mod LineLemmas
 pub mod LoadLemmas
-pub mod LoadRows
 pub mod OneEntry
 pub mod Values
