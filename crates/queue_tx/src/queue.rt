@@ -250,11 +250,21 @@ fn past(key: Option<&Key>) -> Bound<&Key>
 
 impl Copied for Queue {
     fn copy(&self, alloc: Global) -> Result<Queue, Memory> {
+        let (ads, kinds) = copy_both(alloc, &self.ads, &self.kinds)?;
+        let (periodic, asked) = copy_both(alloc, &self.periodic, &self.asked)?;
         Ok(Queue {
-            ads: self.ads.copy(alloc)?,
-            kinds: self.kinds.copy(alloc)?,
-            periodic: self.periodic.copy(alloc)?,
-            asked: self.asked.copy(alloc)?,
+            ads,
+            kinds,
+            periodic,
+            asked,
         })
     }
+}
+
+fn copy_both<A: Copied, B: Copied>(alloc: Global, one: &A, other: &B) -> Result<(A, B), Memory>
+    ensures { IfOk result (λ c. (c.0 ≡ one.now) × (c.1 ≡ other.now)) }
+{
+    let one = one.copy(alloc)?;
+    let other = other.copy(alloc)?;
+    Ok((one, other))
 }
