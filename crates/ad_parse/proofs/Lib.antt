@@ -24,3 +24,6 @@ pub mod AdRefusals
 pub mod Literals
 pub mod Shortest
 pub mod Sizes
+pub mod Written
+pub mod Whole
+pub mod Counted

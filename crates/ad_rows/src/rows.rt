@@ -10,7 +10,7 @@ use ad_value::{Memory, Text, Value};
 use std::alloc::Global;
 
 /// What an attribute is set to.
-#[derive(Clone, Copy, Debug)]
+#[derive(Clone, Copy)]
 pub enum Given<'a> {
     /// An integer below 2^63.
     Integer(u64),

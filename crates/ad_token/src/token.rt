@@ -2,7 +2,7 @@ use ad_tree::{BinOp, Scope};
 use ad_value::Text;
 
 /// A kind of bracket.
-#[derive(Clone, Copy, Debug, PartialEq, Eq)]
+#[derive(Clone, Copy, PartialEq, Eq)]
 pub enum Bracket {
     /// `(` and `)`
     Round,
@@ -11,7 +11,7 @@ pub enum Bracket {
 }
 
 /// A token of a text. `Real`, `Range` and `Bad` stand in no expression.
-#[derive(Debug, Drop)]
+#[derive(Drop)]
 pub enum Token {
     /// `UNDEFINED`, without case
     Undefined,
@@ -52,7 +52,7 @@ pub enum Token {
 }
 
 /// A token and the offset of its first byte, which counts bytes from 0.
-#[derive(Debug, Drop)]
+#[derive(Drop)]
 pub struct Placed {
     pub at: u64,
     pub token: Token,

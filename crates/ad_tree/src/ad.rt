@@ -7,7 +7,6 @@ use crate::table::{Table, refuse};
 use crate::tree::Expr;
 use ad_value::{Copied, Memory, Seq};
 use std::alloc::Global;
-use std::fmt;
 use std::marker::Model;
 use thiserror::Error;
 
@@ -290,18 +289,6 @@ impl Ad {
             (None, None) => true,
             _ => false,
         }
-    }
-}
-
-impl fmt::Debug for Ad {
-    fn fmt<W: fmt::Write>(&self, f: &mut fmt::Formatter<W>) -> fmt::Result {
-        let mut shown = f.debug_map();
-        for place in 0..self.len() {
-            if let Some((name, expr)) = self.attribute(place) {
-                shown.entry(&name, expr);
-            }
-        }
-        shown.finish()
     }
 }
 

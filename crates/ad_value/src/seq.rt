@@ -12,7 +12,7 @@ pub trait Copied: Drop {
 }
 
 /// A list, which contracts see as its items alone, whatever room it has.
-#[derive(Debug, Drop)]
+#[derive(Drop)]
 pub struct Seq<T> {
     items: Vec<T>,
 }

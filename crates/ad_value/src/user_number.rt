@@ -4,7 +4,7 @@ use crate::text::Text;
 use std::alloc::Global;
 
 /// A number that a user was given.
-#[derive(Debug, Drop)]
+#[derive(Drop)]
 pub struct UserNumber {
     /// The user's name, with case.
     pub user: Text,

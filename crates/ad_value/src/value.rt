@@ -9,7 +9,7 @@ use std::alloc::Global;
 
 /// What an expression may evaluate to (HTCondor manual, "ClassAd evaluation semantics").
 #[cycle(value)]
-#[derive(Debug, Drop)]
+#[derive(Drop)]
 pub enum Value {
     Undefined,
     Error,
@@ -24,7 +24,7 @@ pub enum Value {
 
 /// A list of values, made of a `Vec` and taken apart again in O(1), without memory.
 #[cycle(value)]
-#[derive(Debug, Drop)]
+#[derive(Drop)]
 pub struct ValueList {
     /// The values, in order.
     pub items: Vec<Value>,

@@ -6,7 +6,7 @@ use crate::escapes::unescape;
 use std::alloc::Global;
 
 /// A line of cases: its kind, and the fields after it.
-#[derive(Clone, Copy, Debug)]
+#[derive(Clone, Copy)]
 pub struct Case<'a> {
     /// The number of its line, from 1.
     pub line: u64,

@@ -32,7 +32,7 @@ pub struct ClaimNo {
 }
 
 /// A claim: its number, and the secret that only its machine and its holder are told.
-#[derive(Clone, Copy, Debug, PartialEq, Eq)]
+#[derive(Clone, Copy, PartialEq, Eq)]
 pub struct ClaimId {
     pub no: ClaimNo,
     pub secret: u64,

@@ -1,6 +1,6 @@
 /// The state and the activity of a slot (HTCondor manual, Policy Configuration for Execution
 /// Points, Machine States and Machine Activities).
-#[derive(Clone, Copy, Debug, PartialEq, Eq)]
+#[derive(Clone, Copy, PartialEq, Eq)]
 pub enum Pair {
     /// The slot's owner keeps it from the pool.
     OwnerIdle,
@@ -21,7 +21,7 @@ pub enum Pair {
 }
 
 /// What makes a slot change its state or its activity.
-#[derive(Clone, Copy, Debug, PartialEq, Eq)]
+#[derive(Clone, Copy, PartialEq, Eq)]
 pub enum Cue {
     /// The slot's Start isn't false any more.
     StartOn,

@@ -18,7 +18,7 @@ use std::alloc::Global;
 
 /// A desk with one holder. Nobody else gives events to its pool, so what it tells of the pool is
 /// so.
-#[derive(Clone, Copy, Debug)]
+#[derive(Clone, Copy)]
 pub struct SoleDesk;
 
 impl Desk for SoleDesk {

@@ -8,7 +8,7 @@ use ad_value::{Copied, Memory, Seq, Text};
 use std::alloc::Global;
 
 /// A logical line.
-#[derive(Debug, Drop)]
+#[derive(Drop)]
 pub struct Line {
     /// The number of its first line in the file, from 1.
     pub number: u32,

@@ -16,7 +16,7 @@ use std::alloc::Global;
 use std::cmp::Ordering;
 use std::sync::ledger::Ledger;
 
-fn is_slot(a: SlotId, b: SlotId) -> bool
+pub(crate) fn is_slot(a: SlotId, b: SlotId) -> bool
     ensures { result ≡ cycle.same_slot a b }
 {
     a.machine == b.machine && a.slot == b.slot

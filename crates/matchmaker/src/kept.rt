@@ -3,6 +3,7 @@ ghost use Rattle.std.specs.List.{list_any, insert};
 ghost use Rattle.matchmaker.specs.declared.error.CollectorError.TheVariants as error;
 ghost use Rattle.matchmaker.specs.Kept.{is_fresh, is_of, with_ad, without_slot, fresh_ads, AreKept, IsFullFor, IsInOrder, IsPlaceOf};
 
+use crate::choosing::is_slot;
 use crate::error::CollectorError;
 use ad_value::{Copied, Memory, Seq};
 use claim_id::SlotId;
@@ -40,7 +41,7 @@ impl KeptAd {
     pub(crate) fn is_of(&self, slot: SlotId) -> bool
         ensures { result ≡ is_of slot self.now }
     {
-        self.ad.slot.machine == slot.machine && self.ad.slot.slot == slot.slot
+        is_slot(self.ad.slot, slot)
     }
 }
 

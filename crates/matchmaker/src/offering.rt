@@ -13,7 +13,7 @@ use std::cmp::Ordering;
 use std::sync::ledger::Ledger;
 
 /// How a slot is offered to a request.
-#[derive(Clone, Copy, Debug, PartialEq, Eq)]
+#[derive(Clone, Copy, PartialEq, Eq)]
 pub enum Offering {
     /// Not at all.
     Withheld,

@@ -1,6 +1,8 @@
 -- Where parts stand by their digests, one attribute and one part more.
 use Rattle.std.proofs.Common.{◌≡◌, ℕ, zero, suc, ◌+◌, ◌%◌, ◌^◌, ◌<◌, ◌≤◌, List, [], ◌∷◌, ◌++◌, length, get_or, take, slice_get, Option, Some, None, Vec, refl, ap, sym, ◌∙◌, subst, inl, inr}
-use Rattle.std.specs.Prelude.{◌≢◌, ◌⊎◌, sum_by, Contains, MatchOption}
+use Rattle.std.specs.Prelude.{◌≢◌, ◌⊎◌, ◌↔◌, Bool, IsTrue, sum_by, Contains, MatchOption}
+use Rattle.std.specs.Borrow.{Bor}
+use Rattle.std.specs.Slice.{IsItemAt}
 use Rattle.std.specs.List.{All}
 use Rattle.std.specs.Option.{option_map_or}
 use Rattle.std.specs.HashMap.{HashMap}
@@ -67,6 +69,15 @@ answered places parts given seen part digest list None found same whole digested
     (subst (λ (is : List ℕ). All (λ i. slice_get parts i ≢ Some part) is) (listed ∙ ap (places_under places) digested)
     (subst (λ (ps : List Attributes). All (λ i. slice_get ps i ≢ Some part) list) same none_at)))
 answered places parts given seen part digest list (Some i) found same whole digested listed at = ap (λ ps. slice_get ps i) (sym (same ∙ whole)) ∙ at
+
+-- what a slice lends at a place stands there
+pub lent_at : {A : Type 0} (xs : List A) (i : ℕ) (o : Option (Bor A)) (x : Bor A) → IsItemAt xs i o → o ≡ Some x → slice_get xs i ≡ Some x.now
+lent_at xs i o x is e =
+    let at : IsItemAt xs i (Some x) = subst (IsItemAt xs i) e is in
+    slice_get-get_or xs i x.now at.3.0 ∙ ap (λ y. Some y) (sym at.1)
+
+pub stands_by : {A : Type 0} (b : Bool) (o : Option A) (x y : A) → o ≡ Some x → (IsTrue b ↔ (x ≡ y)) → (IsTrue b ↔ (o ≡ Some y))
+stands_by b o x y e h = (λ t. e ∙ ap (λ z. Some z) (h.0 t), λ s. h.1 (some_is (sym e ∙ s)))
 
 -- ---- one place more under a digest
 

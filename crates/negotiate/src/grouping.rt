@@ -96,10 +96,11 @@ fn is_free(
     ensures { IfOk result (λ b. b ≡ (cycle.is_unmatched made.now slot.now
         && offers.is_offered snapshot.entry.now account.now request.now slot.now)) }
 {
-    if !is_unmatched(made, slot) {
-        return Ok(false);
+    if is_unmatched(made, slot) {
+        is_offered(alloc, snapshot, account, request, slot)
+    } else {
+        Ok(false)
     }
-    is_offered(alloc, snapshot, account, request, slot)
 }
 
 // Whether a request would rather have the first slot.

@@ -156,9 +156,9 @@ impl<'a> Fields<'a> {
         }
     }
 
-    /// A claim with its secret. Computes in O(bytes of the field).
-    pub(crate) fn claim(&mut self) -> Result<ClaimId, CaseError> {
-        match read_claim(self.field()?) {
+    /// The claim that a field says with its secret. Computes in O(bytes of the field).
+    pub(crate) fn claim_of(&self, field: &str) -> Result<ClaimId, CaseError> {
+        match read_claim(field) {
             Ok(claim) => Ok(claim),
             Err(error) => Err(self.fault(error)),
         }
@@ -216,7 +216,8 @@ impl<'a> Fields<'a> {
     }
 }
 
-fn slot_of(field: &str) -> Option<SlotId> {
+/// `M:S`. Computes in O(bytes).
+pub(crate) fn slot_of(field: &str) -> Option<SlotId> {
     let (machine, slot) = field.split_once(':')?;
     match (machine.parse::<u16>(), slot.parse::<u16>()) {
         (Ok(machine), Ok(slot)) => Some(SlotId { machine, slot }),

@@ -1,4 +1,3 @@
-use crate::course::answer_course;
 use crate::script::PoolScript;
 use cases::{Case, CaseError, read_cases};
 
@@ -21,23 +20,9 @@ fn answer_line(
         "new-pool" => script.begin(rt.alloc(), case),
         "slot" | "queue" | "wish" | "crash-line" | "repeat-line" => script.go_on(rt.alloc(), case),
         _ => {
-            answer_case(rt, case, script, out)?;
+            script.opened(rt.alloc(), case)?.answer(rt, case, out)?;
             out.push('\n')?;
             Ok(())
         }
-    }
-}
-
-// An event, a whole course of them, or what the pool is asked.
-fn answer_case(
-    rt: &HostRuntime,
-    case: Case<'_>,
-    script: &mut PoolScript,
-    out: &mut String,
-) -> Result<(), CaseError> {
-    let open = script.opened(rt.alloc(), case)?;
-    match case.kind {
-        "course" => answer_course(rt, case, open, out),
-        _ => open.answer(rt.alloc(), case, out),
     }
 }

@@ -4,8 +4,6 @@
 
 mod answers;
 mod asks;
-mod course;
-mod course_lines;
 mod events;
 mod fields;
 mod judging;

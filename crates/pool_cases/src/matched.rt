@@ -4,14 +4,14 @@ ghost use Rattle.std.specs.Prelude.{IfOk, length};
 ghost use Rattle.pool_cases.specs.Marks.{IsGivenToAny};
 
 use crate::events::read_ads;
-use crate::fields::Fields;
+use crate::fields::{Fields, slot_of};
 use crate::judging::{Evidence, evidence_of, judge_pair};
 use crate::outcome::memory;
 use ad_eval::{FoundMatch, Judged, NoMatch, none_match};
 use ad_tree::{Ad, AdList};
 use ad_value::{Copied, Memory};
 use cases::{Case, CaseError};
-use claim_id::{JobId, SlotId};
+use claim_id::{ClaimId, JobId, SlotId};
 use pool_core::Pool;
 use pool_mail::{Mail, Match, MatchList, Request, SlotAd};
 use pool_outer::Daemon;
@@ -187,7 +187,7 @@ impl Found {
         fields: &mut Fields<'_>,
         pool: &Pool,
     ) -> Result<(), CaseError> {
-        let found = read_match(fields)?;
+        let found = read_match(alloc, fields, pool)?;
         self.add_match(found)?;
         let judged = read_judged(alloc, fields, pool, found)?;
         memory(self.judged.push(judged))
@@ -216,12 +216,31 @@ impl Found {
     }
 }
 
-fn read_match(fields: &mut Fields<'_>) -> Result<Match, CaseError> {
+fn read_match(alloc: Global, fields: &mut Fields<'_>, pool: &Pool) -> Result<Match, CaseError> {
     Ok(Match {
         job: fields.job()?,
-        claim: fields.claim()?,
+        claim: read_offer(alloc, fields, pool)?,
         by_priority: fields.truth()?,
     })
+}
+
+// `M:S` is the claim that the slot offers.
+fn read_offer(alloc: Global, fields: &mut Fields<'_>, pool: &Pool) -> Result<ClaimId, CaseError> {
+    let field = fields.field()?;
+    match slot_of(field) {
+        Some(slot) => there_is(fields, offered_claim(alloc, pool, slot)),
+        None => fields.claim_of(field),
+    }
+}
+
+fn offered_claim(alloc: Global, pool: &Pool, slot: SlotId) -> Result<Option<ClaimId>, Memory> {
+    let look = pool.look(alloc)?;
+    Ok(claim_in(look.slots.as_slice(), slot))
+}
+
+fn claim_in(slots: &[SlotAd], slot: SlotId) -> Option<ClaimId> {
+    let told = slots.iter().find(|told| told.slot == slot)?;
+    told.claim
 }
 
 fn read_judged(
@@ -279,10 +298,13 @@ fn read_slot_ad(
     there_is(fields, pool.slot_ad(alloc, slot))
 }
 
-// An ad that a pool may give.
-fn there_is(fields: &Fields<'_>, ad: Result<Option<Ad>, Memory>) -> Result<Ad, CaseError> {
-    match ad {
-        Ok(Some(ad)) => Ok(ad),
+// What a pool may give.
+fn there_is<T: Drop>(
+    fields: &Fields<'_>,
+    given: Result<Option<T>, Memory>,
+) -> Result<T, CaseError> {
+    match given {
+        Ok(Some(given)) => Ok(given),
         Ok(None) => Err(fields.form()),
         Err(Memory) => Err(CaseError::Memory),
     }

@@ -15,6 +15,7 @@ use crate::outcome::memory;
 use crate::refusals::write_refusal;
 use crate::rolls::Rolls;
 use crate::setup::SetUp;
+use crate::times::{Times, answer_times, moment, nanos_since};
 use ad_eval::FoundMatch;
 use ad_value::{Copied, Memory};
 use cases::{Case, CaseError};
@@ -28,13 +29,16 @@ use queue_tx::Tx;
 use std::alloc::{AllocError, Global};
 use std::fmt::Write;
 use std::marker::Model;
+use std::time::Instant;
 
-/// A pool, the rolls by whose receipts its events come, and the transaction that it asked to log
-/// last. After an error it is not to be used. Contracts see the marks of the rolls.
+/// A pool, the rolls by whose receipts its events come, the transaction that it asked to log last,
+/// and how long its events took. After an error it is not to be used. Contracts see the marks of
+/// the rolls.
 pub(crate) struct OpenPool {
     pool: Pool,
     rolls: Rolls,
     unfinished: Tx,
+    times: Times,
 }
 
 impl Drop for OpenPool {
@@ -43,6 +47,7 @@ impl Drop for OpenPool {
             pool: _pool,
             rolls: _rolls,
             unfinished: _unfinished,
+            times: _,
         } = self;
     }
 }
@@ -67,28 +72,25 @@ impl OpenPool {
             pool,
             rolls,
             unfinished: Tx::new(alloc),
+            times: Times::none(),
         })
-    }
-
-    /// The pool. Computes in O(1).
-    pub(crate) fn pool(&self) -> &Pool {
-        &self.pool
     }
 
     /// Appends the answer to a case. Computes in O(bytes), and in the time of the pool's call.
     pub(crate) fn answer(
         &mut self,
-        alloc: Global,
+        rt: &HostRuntime,
         case: Case<'_>,
         out: &mut String,
     ) -> Result<(), CaseError> {
         match case.kind {
             "view" | "due" | "cluster" | "next" | "wants" | "look" => {
-                answer_ask(alloc, case, &self.pool, out)
+                answer_ask(rt.alloc(), case, &self.pool, out)
             }
-            "boot" => self.answer_boot(alloc, case, out),
-            "close" => self.answer_close(alloc, case, out),
-            _ => self.answer_event(alloc, case, out),
+            "boot" => self.answer_boot(rt.alloc(), case, out),
+            "times" => answer_times(rt, case, &self.times, out),
+            "close" => self.answer_close(rt, case, out),
+            _ => self.answer_event(rt, case, out),
         }
     }
 
@@ -115,14 +117,16 @@ impl OpenPool {
         }
     }
 
+    // With the time in which the proof is made.
     fn answer_close(
         &mut self,
-        alloc: Global,
+        rt: &HostRuntime,
         case: Case<'_>,
         out: &mut String,
     ) -> Result<(), CaseError> {
-        match read_close(alloc, case, &self.pool)? {
-            Ok(event) => self.take(alloc, event, out),
+        let start = moment(rt);
+        match read_close(rt.alloc(), case, &self.pool)? {
+            Ok(event) => self.take(rt, event, start, out),
             Err(found) => {
                 write_found(&found, out)?;
                 Ok(())
@@ -132,18 +136,18 @@ impl OpenPool {
 
     fn answer_event(
         &mut self,
-        alloc: Global,
+        rt: &HostRuntime,
         case: Case<'_>,
         out: &mut String,
     ) -> Result<(), CaseError> {
-        let event = self.read_event(alloc, case)?;
-        self.take(alloc, event, out)
+        let event = self.read_event(rt.alloc(), case)?;
+        self.take(rt, event, moment(rt), out)
     }
 
-    /// The event that a case says, but for `close`. Computes in O(bytes); of `submit-many` in
-    /// O(size of the ad) for each job; of `receive` and `matches` as `judge` and the pool's
-    /// `wants`.
-    pub(crate) fn read_event(&mut self, alloc: Global, case: Case<'_>) -> Result<Event, CaseError>
+    // The event that a case says, but for `close`. Computes in O(bytes); of `submit-many` in
+    // O(size of the ad) for each job; of `receive` and `matches` as `judge`, and as the pool's
+    // `wants` and `look`.
+    fn read_event(&mut self, alloc: Global, case: Case<'_>) -> Result<Event, CaseError>
         ensures marks { self.new ≡ self.old }
         ensures given { IfOk result (IsGivenBy self.old) }
     {
@@ -169,13 +173,23 @@ impl OpenPool {
         }
     }
 
-    // An event happens, or is refused.
-    fn take(&mut self, alloc: Global, event: Event, out: &mut String) -> Result<(), CaseError>
+    // An event happens, or is refused. Its time begins at the start.
+    fn take(
+        &mut self,
+        rt: &HostRuntime,
+        event: Event,
+        start: Option<Instant>,
+        out: &mut String,
+    ) -> Result<(), CaseError>
         requires { IsGivenBy self.old event }
     {
         let sent = self.pool.mails().len();
-        match self.step(alloc, event) {
-            Ok(stepped) => self.take_step(alloc, stepped, sent, out),
+        let kind = self.times.kind_of(&event);
+        match self.step(rt.alloc(), event) {
+            Ok(stepped) => {
+                self.times.add(kind, nanos_since(rt, start), &stepped.kept);
+                self.take_step(rt.alloc(), stepped, sent, out)
+            }
             Err(StepError::Memory) => Err(CaseError::Memory),
             Err(error) => {
                 write_refusal(error, out)?;
@@ -184,9 +198,9 @@ impl OpenPool {
         }
     }
 
-    /// An event happens, where it is accepted. The receipt that it has is put back. Computes as
-    /// `Pool::step`.
-    pub(crate) fn step(&mut self, alloc: Global, event: Event) -> Result<Stepped, StepError>
+    // An event happens, where it is accepted. The receipt that it has is put back. Computes as
+    // `Pool::step`.
+    fn step(&mut self, alloc: Global, event: Event) -> Result<Stepped, StepError>
         requires { IsGivenBy self.old event }
         ensures { self.new ≡ self.old }
     {
@@ -208,8 +222,8 @@ impl OpenPool {
         self.write_sent(alloc, sent, out)
     }
 
-    /// The transaction that is to be logged is the unfinished one. Computes in O(its size).
-    pub(crate) fn note(&mut self, alloc: Global, kept: &Kept) -> Result<(), CaseError> {
+    // The transaction that is to be logged is the unfinished one.
+    fn note(&mut self, alloc: Global, kept: &Kept) -> Result<(), CaseError> {
         if let Kept::Append { tx, .. } = kept {
             self.unfinished = memory(tx.copy(alloc))?;
         }

@@ -7,8 +7,8 @@ use pool_tables::{StepError, Unquiet};
 use std::alloc::AllocError;
 use std::fmt::Write;
 
-/// Appends a daemon: `schedd`, `startd:M` or `matchmaker`.
-pub(crate) fn write_daemon(who: Daemon, out: &mut String) -> Result<(), AllocError> {
+// `schedd`, `startd:M` or `matchmaker`.
+fn write_daemon(who: Daemon, out: &mut String) -> Result<(), AllocError> {
     match who {
         Daemon::Schedd => out.push_str("schedd"),
         Daemon::Startd(machine) => write!(out, "startd:{machine}"),

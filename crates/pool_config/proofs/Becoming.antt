@@ -1,10 +1,12 @@
 -- A part that becomes something, and the whole around it.
-use Rattle.std.proofs.Common.{◌≡◌, ℕ, List, Option, Some, None, Result, Ok, Err, refl, ap, sym, ◌∙◌}
+use Rattle.std.proofs.Common.{◌≡◌, ℕ, Bool, true, false, cond, List, Option, Some, None, Result, Ok, Err, refl, ap, sym, ◌∙◌, subst}
+use Rattle.ad_tree.specs.Ad.{Attributes, with_attribute}
 use Rattle.ad_tree.specs.Tree.{Tree}
 use Rattle.pool_config.specs.declared.error.ConfigError.{ConfigError}
+use Rattle.pool_config.specs.declared.error.ConfigError.TheVariants as error
 use Rattle.pool_config.specs.Configuration.{ConfiguredMachine, plain_machine}
 use Rattle.pool_config.specs.Errors.{Becomes}
-use Rattle.pool_config.specs.Settings.{SoFar, with_value, whole, machine_check, begin_if, begin_behind}
+use Rattle.pool_config.specs.Settings.{SoFar, with_value, is_full, attributes_with, attribute_with, whole, machine_check, begin_if, begin_behind}
 use Rattle.pool_config.proofs.Readings.{unless, unless_map}
 
 module _ {X Y : Type 0} (f : X → Y) where
@@ -26,6 +28,21 @@ module _ {X : Type 0} (f : Tree → X) where
 
   pub value_becomes : (new : Tree) (n : ℕ) (r : Result (Unit {0}) ConfigError) (o : Option Tree) → Becomes new r (with_value n (λ e. e) o) → Becomes (f new) r (with_value n f o)
   value_becomes new n r o = becomes f new r (with_value n (λ e. e) o) (with_value n f o) (valued n o)
+
+-- the machine whose attributes become something
+module _ (x : List ℕ) (n : ℕ) (m : ConfiguredMachine) (e : Tree) where
+  abbrev with_attrs : Attributes → ConfiguredMachine
+  with_attrs ad = record m { attrs = ad }
+
+  attributed : (b : Bool) → mapped with_attrs (cond b (Err (error.Full n)) (Ok (with_attribute x e m.attrs))) ≡ cond b (Err (error.Full n)) (Ok (with_attrs (with_attribute x e m.attrs)))
+  unfolding mapped
+  attributed true = refl
+  attributed false = refl
+
+  pub attribute_becomes : (new : Attributes) (r : Result (Unit {0}) ConfigError) (o : Option Tree) → Some e ≡ o → Becomes new r (attributes_with x n e m.attrs) → Becomes (with_attrs new) r (attribute_with x n m o)
+  attribute_becomes new r o is h =
+      subst (λ o. Becomes (with_attrs new) r (attribute_with x n m o)) is
+      (becomes with_attrs new r (attributes_with x n e m.attrs) (attribute_with x n m (Some e)) (attributed (is_full x m.attrs)) h)
 
 -- a machine that begins once the last one is kept, or may not begin
 pub machine_begins : (x : List ℕ) (n : ℕ) (s kept : SoFar) (m : ConfiguredMachine) → kept ≡ record { config = whole s; last = None } → machine_check x n kept.config.machines ≡ Ok tt → m ≡ plain_machine x → Ok (record kept { last = Some m }) ≡ begin_behind x n (whole s)

@@ -1,6 +1,7 @@
 pub mod Becoming
 pub mod EachSlots
 pub mod Expressions
+pub mod Kept
 pub mod Limits
 pub mod Machines
 pub mod OneOutcome

@@ -1,10 +1,8 @@
 -- How a table's entries show its users.
-use Rattle.std.proofs.Common.{◌≡◌, ℕ, Bool, true, false, cond, List, [], ◌∷◌, map, Some, refl, ap, sym, ◌∙◌, String, string_bytes}
-use Rattle.std.specs.List.{position}
+use Rattle.std.proofs.Common.{◌≡◌, ℕ, Bool, true, false, cond, List, [], ◌∷◌, refl, ap, String, string_bytes}
 use Rattle.std.specs.Str.{bytes_eq}
 use Rattle.std.specs.String.{string_eq}
-use Rattle.indexmap.specs.IndexMap.{insert_entry, set_value_at}
-use Rattle.indexmap.proofs.MapLemmas.{insert_entry-first, Found-position}
+use Rattle.indexmap.specs.IndexMap.{insert_entry}
 use Rattle.ad_value.specs.declared.user_number.UserNumber.{UserNumber}
 use Rattle.pool_config.specs.Settings.{with_user}
 use Rattle.pool_config.specs.Users.{users_of}
@@ -17,8 +15,3 @@ module _ {A : Type 0} where
       by : (b : Bool) → users_of (insert_entry string_eq es k v) ≡ with_user (string_bytes k) v (users_of es) → users_of (cond b ((e.0, v) ∷ es) (e ∷ insert_entry string_eq es k v)) ≡ cond b (record { user = string_bytes e.0; number = v } ∷ users_of es) (record { user = string_bytes e.0; number = e.1 } ∷ with_user (string_bytes k) v (users_of es))
       by true rest = refl
       by false rest = ap (λ (l : List UserNumber). record { user = string_bytes e.0; number = e.1 } ∷ l) rest
-
-  -- a write at the place of a name
-  pub users-set_value_at : (es : List (String A × ℕ)) (k : String A) (v : ℕ) (i : ℕ) → position (string_eq k) (map (λ e. e.0) es) ≡ Some i → users_of (set_value_at es i v) ≡ with_user (string_bytes k) v (users_of es)
-  users-set_value_at es k v i at =
-      sym (ap users_of (insert_entry-first string_eq k v es i (Found-position (string_eq k) es i at).first)) ∙ users-insert_entry es k v

@@ -33,6 +33,13 @@ pub fn read(alloc: Global, text: &str) -> Result<Config, ConfigError>
     ensures within { IfOk result (λ c. IsWithinLimits (configuration_of c)) }
     ensures each { IfOk result (λ c. HaveSlots (configuration_of c).machines) }
 {
+    configuration_in(alloc, text)
+}
+
+// The same: what the lines set, or the first refusal.
+fn configuration_in(alloc: Global, text: &str) -> Result<Config, ConfigError>
+    ensures { UnlessMemory (IsConfiguration text.now) (outcome result) }
+{
     let lines = lines(alloc, text)?;
     let mut reading = Reading::new(alloc)?;
     match reading.read_lines(alloc, lines.as_slice()) {

@@ -6,7 +6,7 @@ ghost use Rattle.pool_config.specs.Keys.{sets_of, is_of_machine};
 use crate::setting_word::{PoolWord, SlotWord};
 
 /// What can be set.
-#[derive(Clone, Copy, Debug)]
+#[derive(Clone, Copy)]
 pub enum Key<'a> {
     Pool(PoolWord),
     /// How many slots this user may have.

@@ -7,7 +7,7 @@ ghost use Rattle.pool_config.specs.Configuration.{machine_of, total_slots};
 ghost use Rattle.pool_config.specs.Errors.{Becomes};
 ghost use Rattle.pool_config.specs.Settings.{machine_with, slots_with, cpus_with, memory_with, disk_with, start_with, rank_with, attribute_with, attributes_with, expression_in, is_full};
 
-use crate::config::{MAX_MACHINE_ATTRIBUTES, Machine};
+use crate::config::{MAX_MACHINE_ATTRIBUTES, Machine, discard};
 use crate::error::ConfigError;
 use crate::setting_word::SlotWord;
 use crate::settings::are_above;
@@ -138,6 +138,7 @@ fn set_own(
     ensures { Becomes attrs.new result (attributes_with name.now line (tree expr) attrs.old) }
 {
     if is_full(attrs, name) {
+        discard(expr);
         return Err(ConfigError::Full { line });
     }
     match attrs.set(alloc, name, expr) {

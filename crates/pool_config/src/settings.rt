@@ -324,7 +324,6 @@ fn is_named(machines: &[Machine], name: &str) -> bool
 }
 
 // Whether there are as many machines as may be.
-#[tactic(auto, using(crate::proofs::Machines::as_many))]
 fn are_most(machines: &[Machine]) -> bool
     ensures { result ≡ nat_le MAX_MACHINES (length (map machine_of machines.now)) }
 {

@@ -18,7 +18,6 @@ use claim_id::SlotId;
 use std::alloc::Global;
 
 /// A slot of a configuration.
-#[derive(Debug)]
 pub struct ConfiguredSlot {
     pub slot: SlotId,
     /// `slotK@MACHINE` (HTCondor manual, Machine ClassAd Attributes, Name).

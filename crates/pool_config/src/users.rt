@@ -71,10 +71,6 @@ fn put(entries: &mut IndexMap<String, u32>, user: String, number: u32) -> Result
         users_of entries.new.entries
         ≡ with_user (string_bytes user) number (users_of entries.old.entries)) }
 {
-    if let Some(place) = entries.get_index_of(user.as_str()) {
-        entries[place] = number;
-        return Ok(());
-    }
     entries.insert(user, number)?;
     Ok(())
 }

@@ -8,11 +8,13 @@ ghost use Rattle.ad_tree.specs.Tree.{tree};
 ghost use Rattle.pool_config.specs.Errors.{Becomes};
 ghost use Rattle.pool_config.specs.Settings.{with_value, number_within, expression_in, is_memory, is_machine_byte, is_machine_name};
 
+use crate::config::discard;
 use crate::error::ConfigError;
 use ad_parse::{ParseError, parse_expr};
 use ad_tree::Expr;
 use ad_value::Memory;
 use std::alloc::Global;
+use std::mem::replace;
 use submit_lines::decimal;
 
 /// How many seconds a time has at most.
@@ -83,7 +85,7 @@ pub(crate) fn set_expression(
 {
     match expression_in(alloc, text)? {
         Some(said) => {
-            *expr = said;
+            discard(replace(expr, said));
             Ok(())
         }
         None => Err(ConfigError::BadValue { line }),

@@ -1,4 +1,4 @@
-ghost use Rattle.std.specs.Prelude.{◌≡◌, ◌≤◌, ◌<◌, ℕ, true, Some, None, length, IfOk, IsErrOf};
+ghost use Rattle.std.specs.Prelude.{◌≡◌, ◌≤◌, ◌<◌, ℕ, true, false, Some, None, length, IfOk, IsErrOf};
 ghost use Rattle.std.specs.Option.{option_map};
 ghost use Rattle.pool_outer.specs.Cause.{HasCause};
 ghost use Rattle.pool_outer.specs.Files.{SameFiles};
@@ -70,7 +70,7 @@ pub fn read_file<D: Store>(alloc: Global, store: &mut D, name: &str) -> Result<V
     ensures cause { HasCause Failed (D.faults store.old) (D.faults store.new) result }
 {
     let size = store.size(alloc, name)?;
-    if size > MOST_BYTES {
+    if is_too_long(size) {
         return Err(ReadError::TooLong);
     }
     let mut bytes = Vec::new(alloc);
@@ -85,4 +85,12 @@ pub fn read_file<D: Store>(alloc: Global, store: &mut D, name: &str) -> Result<V
     // What a file that is being written gained meanwhile is left for another time.
     bytes.truncate(size as usize);
     Ok(bytes)
+}
+
+// Whether a file of so many bytes isn't read.
+fn is_too_long(size: u64) -> bool
+    ensures yes { result ≡ true → MOST_BYTES < size }
+    ensures no { result ≡ false → size ≤ MOST_BYTES }
+{
+    size > MOST_BYTES
 }

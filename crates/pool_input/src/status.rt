@@ -6,7 +6,7 @@ use pool_outer::Which;
 use std::alloc::Global;
 
 /// Why an input file isn't accepted.
-#[derive(Clone, Copy, Debug, PartialEq, Eq)]
+#[derive(Clone, Copy, PartialEq, Eq)]
 pub enum Kind {
     /// There is no such file.
     Missing,
@@ -35,7 +35,7 @@ pub enum Kind {
 }
 
 /// How a run ended.
-#[derive(Debug, Drop)]
+#[derive(Drop)]
 pub enum Status {
     /// The pool was closed, and no job is left in its queue.
     Done,

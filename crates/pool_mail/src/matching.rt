@@ -22,7 +22,7 @@ impl Drop for Request {
 pub type RequestList = Seq<Request>;
 
 /// A job and an offered claim that go together: a hint, which the schedd may follow.
-#[derive(Clone, Copy, Debug, PartialEq, Eq)]
+#[derive(Clone, Copy, PartialEq, Eq)]
 pub struct Match {
     pub job: JobId,
     pub claim: ClaimId,

@@ -10,7 +10,7 @@ pub const MAX_SECONDS: u64 = 1_000_000;
 
 /// The seconds that a pool is set to, each at most `MAX_SECONDS`, and at least 1 but for the last
 /// two.
-#[derive(Clone, Copy, Debug)]
+#[derive(Clone, Copy)]
 pub struct Settings {
     /// How often a slot tells the collector how it stands.
     pub update_interval: u64,

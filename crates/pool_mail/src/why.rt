@@ -3,7 +3,7 @@ use claim_id::RunNo;
 use std::alloc::Global;
 
 /// Why a startd denies what a schedd asked of it.
-#[derive(Clone, Copy, Debug, PartialEq, Eq)]
+#[derive(Clone, Copy, PartialEq, Eq)]
 pub enum Why {
     /// The claim is not offered, or not held.
     NoSuchClaim,

@@ -12,7 +12,7 @@ const FIRST_PAUSE: u64 = 100;
 const LONGEST_PAUSE: u64 = 50_000;
 
 /// The pauses between looks at a child: each is twice as long as the one before, up to the longest.
-#[derive(Clone, Copy, Debug)]
+#[derive(Clone, Copy)]
 pub(crate) struct Pause {
     // How long the next one is, in microseconds.
     next: u64,

@@ -2,7 +2,7 @@ ghost use Rattle.std.specs.Prelude.{◌≡◌, ◌↔◌, IsTrue};
 ghost use Rattle.pool_outer.specs.MemoryCalls.{NextFails, one_more};
 
 /// Calls of which some fail, by their numbers from 0.
-#[derive(Debug, Drop)]
+#[derive(Drop)]
 pub struct FailingCalls {
     next: u64,
     fails: Vec<u64>,

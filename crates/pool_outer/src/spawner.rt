@@ -17,7 +17,6 @@ use thiserror::Error;
 
 /// What a child is started with. An empty folder is the program's own, and an empty file name is
 /// `/dev/null`.
-#[derive(Debug)]
 pub struct Launch {
     pub program: Text,
     pub words: TextList,

@@ -5,7 +5,7 @@ use pool_outer::Daemon;
 pub type DaemonList = Seq<Daemon>;
 
 /// Which faults may happen in a pool.
-#[derive(Debug, Drop)]
+#[derive(Drop)]
 pub struct Allow {
     /// A daemon for each of its crashes.
     pub crashes: DaemonList,

@@ -8,7 +8,7 @@ use schedd_plan::JobPlan;
 use std::alloc::Global;
 
 /// What an unfinished transaction is to do.
-#[derive(Clone, Copy, Debug)]
+#[derive(Clone, Copy)]
 pub enum Unfinished {
     /// So many jobs come into the queue, as one cluster.
     Submission { cluster: u32, count: u32 },

@@ -1,1 +1,3 @@
+mod Due
+mod Kept
 mod Opened

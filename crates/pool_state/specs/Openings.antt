@@ -18,6 +18,7 @@ use Rattle.pool_tables.specs.MailLists.{MailsValue}
 use Rattle.pool_tables.specs.OrderTables.{not_given}
 use Rattle.pool_tables.specs.Repeats.{times_in, times_of}
 use Rattle.queue_tx.specs.declared.key.Key.TheVariants.{Proc}
+use Rattle.queue_tx.specs.declared.kind.JobKind.{JobKind}
 use Rattle.queue_tx.specs.declared.kind.JobKind.TheVariants.{Idle, Held, Under}
 use Rattle.queue_tx.specs.Queues.{KeyedAds, ad_at}
 use Rattle.receipt_roll.specs.declared.roll.TheConstants.{MAX_ITEMS}
@@ -45,6 +46,10 @@ abbrev pub machines_of : List SlotAd → Option ℕ
 machines_of slots = machines_after 0 0 slots
 
 -- ---- jobs of a queue
+-- the jobs of a kind come to the end of others, in order
+abbrev pub ArePushed : JobKind → KeyedAds → List JobId → List JobId → Type 0
+ArePushed kind q old new = (jobs : List JobId) × AreJobs kind q None jobs × (new ≡ old ++ jobs)
+
 -- the jobs, by kind and in order
 abbrev pub AreListed : KeyedAds → List JobId → Type 0
 AreListed q jobs = (idle held under : List JobId) × AreJobs Idle q None idle

@@ -150,10 +150,10 @@ fn copy_actors(alloc: Global, pool: &PoolState) -> Result<Actors, Memory>
 fn copy_jobs(alloc: Global, pool: &PoolState) -> Result<Jobs, Memory>
     ensures { IfOk result (λ jobs. jobs ≡ jobs_of pool.now) }
 {
-    let finished = pool.finished.copy(alloc)?;
     let acked = copy_linked_list(alloc, &pool.acked)?;
     let ordered = copy_linked_list(alloc, &pool.ordered)?;
     let reports = copy_linked_list(alloc, &pool.reports)?;
+    let finished = pool.finished.copy(alloc)?;
     Ok(Jobs {
         finished,
         acked,

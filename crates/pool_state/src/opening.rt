@@ -1,12 +1,12 @@
 // A pool that opens.
 
-ghost use Rattle.std.specs.Prelude.{◌≡◌, ◌<◌, ◌++◌, ◌∷◌, [], IfOk, filter, if◌then◌else◌, length, List, map};
+ghost use Rattle.std.specs.Prelude.{◌≡◌, ◌<◌, ◌++◌, ◌∷◌, [], IfOk, OnOk, filter, if◌then◌else◌, length, List, map};
 ghost use Rattle.pool_mail.specs.declared.slot_ad.SlotAd.{SlotAd};
 ghost use Rattle.pool_tables.specs.DaemonTables.{first_daemons};
 ghost use Rattle.pool_tables.specs.OrderTables.{not_given};
 ghost use Rattle.schedd_state.specs.Schedds.{IsOpened};
 ghost use Rattle.startd_core.specs.Startds.{with_slot};
-ghost use Rattle.pool_state.specs.Openings.{AreListed, AreRemoved, CanOpen, HasNoMails, IsJobCount, IsJoined, IsOpenedBy, is_next_slot, is_removed, is_removed_at, machines_of, new_startd, startds_from, startds_of};
+ghost use Rattle.pool_state.specs.Openings.{AreListed, ArePushed, AreRemoved, CanOpen, HasNoMails, IsJobCount, IsJoined, IsOpenedBy, is_next_slot, is_removed, is_removed_at, machines_of, new_startd, startds_from, startds_of};
 
 use crate::state::{Counts, PoolState};
 use ad_value::{Copied, Memory, Seq};
@@ -116,14 +116,24 @@ pub fn count_jobs(alloc: Global, queue: &Queue) -> Result<u64, Memory>
 fn list_jobs(alloc: Global, queue: &Queue) -> Result<LinkedList<JobId, Global>, Memory>
     ensures { IfOk result (AreListed queue.now) }
 {
-    let idle = jobs_of_kind(alloc, queue, JobKind::Idle)?;
-    let held = jobs_of_kind(alloc, queue, JobKind::Held)?;
-    let under = jobs_of_kind(alloc, queue, JobKind::Under)?;
     let mut listed = LinkedList::new(alloc);
-    push_jobs(&mut listed, &idle)?;
-    push_jobs(&mut listed, &held)?;
-    push_jobs(&mut listed, &under)?;
+    push_kind(alloc, &mut listed, queue, JobKind::Idle)?;
+    push_kind(alloc, &mut listed, queue, JobKind::Held)?;
+    push_kind(alloc, &mut listed, queue, JobKind::Under)?;
     Ok(listed)
+}
+
+// The jobs of a kind come to the end of others.
+fn push_kind(
+    alloc: Global,
+    listed: &mut LinkedList<JobId, Global>,
+    queue: &Queue,
+    kind: JobKind,
+) -> Result<(), Memory>
+    ensures { OnOk result (ArePushed kind queue.now listed.old listed.new) }
+{
+    let jobs = jobs_of_kind(alloc, queue, kind)?;
+    push_jobs(listed, &jobs)
 }
 
 fn push_jobs(listed: &mut LinkedList<JobId, Global>, jobs: &[JobId]) -> Result<(), Memory>

@@ -14,7 +14,7 @@ use std::alloc::Global;
 use std::collections::LinkedList;
 
 /// What a pool has of that which is limited.
-#[derive(Clone, Copy, Debug)]
+#[derive(Clone, Copy)]
 pub struct Counts {
     /// The jobs of the queue as logged.
     pub jobs: u64,

@@ -8,7 +8,7 @@ ghost use Rattle.pool_state.specs.PoolViews.{IsViewOf};
 use crate::state::PoolState;
 use ad_value::{Memory, Seq};
 use pool_shown::{ShownSlots, shown_jobs, shown_slots};
-use pool_view::View;
+use pool_view::{EndReportList, JobIdList, View};
 use std::alloc::Global;
 use std::collections::LinkedList;
 
@@ -30,15 +30,13 @@ impl PoolState {
         ensures { IfOk result (λ view. (read : List ℕ → Option ClaimId) → IsReader read
             → IsViewOf read self.now view) }
     {
-        let jobs = shown_jobs(alloc, &self.queue, self.schedd.left(), &self.finished)?;
+        let (acked, ordered, reports) = self.said_of_jobs(alloc)?;
         let ShownSlots { runs, marks, ads } = shown_slots(
             alloc,
             &self.daemons,
             self.machines.as_slice(),
         )?;
-        let acked = copied_list(alloc, &self.acked)?;
-        let ordered = copied_list(alloc, &self.ordered)?;
-        let reports = copied_list(alloc, &self.reports)?;
+        let jobs = shown_jobs(alloc, &self.queue, self.schedd.left(), &self.finished)?;
         Ok(View {
             moment: self.latest,
             next: self.schedd.next_run(),
@@ -50,5 +48,16 @@ impl PoolState {
             reports,
             slots: ads,
         })
+    }
+
+    // The jobs that were acknowledged, those that were ordered to be removed, and how runs ended.
+    fn said_of_jobs(&self, alloc: Global) -> Result<(JobIdList, JobIdList, EndReportList), Memory>
+        ensures { IfOk result
+            (λ said. said ≡ (self.now.acked, self.now.ordered, self.now.reports)) }
+    {
+        let acked = copied_list(alloc, &self.acked)?;
+        let ordered = copied_list(alloc, &self.ordered)?;
+        let reports = copied_list(alloc, &self.reports)?;
+        Ok((acked, ordered, reports))
     }
 }

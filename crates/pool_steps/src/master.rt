@@ -1,11 +1,13 @@
 // What the master and the matchmaker do.
 
-ghost use Rattle.std.specs.Prelude.{◌≡◌, ◌+◌, ◌≤◌, ◌*◌, Err, length, position, slice_get, IfErr, IfOk, OnErr, OnOk};
+ghost use Rattle.std.specs.Prelude.{◌≡◌, ◌+◌, ◌<◌, ◌≤◌, ◌*◌, ◌∷◌, [], Err, length, position, slice_get, IfErr, IfOk, OnErr, OnOk};
+ghost use Rattle.pool_outer.specs.declared.gate.Daemon.TheVariants.{Schedd};
 ghost use Rattle.pool_rules.specs.Deeds.{at_rest, rested, sends};
 ghost use Rattle.pool_rules.specs.Happens.{IsDone};
 ghost use Rattle.pool_rules.specs.Limits.{IsLimit, IsTooLarge, IsWithin};
 ghost use Rattle.pool_rules.specs.Masters.{gives, mails_at, match_mails, mails_of_matches, passes};
-ghost use Rattle.pool_tables.specs.OrderTables.{is_due_for};
+ghost use Rattle.pool_tables.specs.MailLists.{sent_now};
+ghost use Rattle.pool_tables.specs.OrderTables.{is_due_for, order_mail};
 ghost use Rattle.pool_tables.specs.declared.refusal.StepError.TheVariants as error;
 
 use crate::begun::nothing_asked;
@@ -54,9 +56,16 @@ fn give(state: &mut PoolState, verb: Verb, job: JobId, reading: u64) -> Result<(
     };
     state.mails.room(1)?;
     let number = state.mails.len();
-    state.mails.put(order_mail(verb, job), Daemon::Schedd);
+    put_order(&mut state.mails, verb, job);
     state.orders.give(place, number);
     Ok(())
+}
+
+fn put_order(mails: &mut Mails, verb: Verb, job: JobId)
+    requires { 0 < mails.old.spare }
+    ensures { rested mails.new ≡ sends (sent_now (order_mail verb job) Schedd ∷ []) mails.old }
+{
+    mails.put(order_mail(verb, job), Daemon::Schedd);
 }
 
 /// Matches are told to the schedd and to the startds of their slots. Bytes where the pool has more

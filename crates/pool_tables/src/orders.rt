@@ -14,7 +14,7 @@ use std::alloc::Global;
 use std::marker::Model;
 
 /// An order of the input, and the number of the mail by which it was given.
-#[derive(Clone, Copy, Debug)]
+#[derive(Clone, Copy)]
 pub struct GivenWish {
     pub wish: Wish,
     pub mail: Option<u64>,

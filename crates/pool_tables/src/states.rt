@@ -9,7 +9,7 @@ use pool_outer::Daemon;
 use std::alloc::Global;
 
 /// How a daemon stands.
-#[derive(Clone, Copy, Debug)]
+#[derive(Clone, Copy)]
 pub struct DaemonState {
     pub boot: u64,
     pub up: bool,

@@ -5,7 +5,7 @@ use pool_mail::How;
 use std::alloc::Global;
 
 /// How a job left the queue.
-#[derive(Clone, Copy, Debug, PartialEq, Eq)]
+#[derive(Clone, Copy, PartialEq, Eq)]
 pub enum Outcome {
     /// By the end of that run.
     EndedBy { run: RunNo, how: How },
@@ -14,7 +14,7 @@ pub enum Outcome {
 }
 
 /// How a job stands (HTCondor manual, Job ClassAd Attributes, JobStatus).
-#[derive(Clone, Copy, Debug, PartialEq, Eq)]
+#[derive(Clone, Copy, PartialEq, Eq)]
 pub enum State {
     Idle,
     Held,

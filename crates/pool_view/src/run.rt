@@ -31,7 +31,7 @@ impl Drop for Run {
 pub type RunList = Seq<Run>;
 
 /// How a run ended, by its slot's machine.
-#[derive(Clone, Copy, Debug, PartialEq, Eq)]
+#[derive(Clone, Copy, PartialEq, Eq)]
 pub struct EndReport {
     pub run: RunNo,
     pub job: JobId,

@@ -17,7 +17,7 @@ use std::alloc::Global;
 pub const MAX_LINE: usize = 16_384;
 
 /// What a line of a log says.
-#[derive(Debug, Drop)]
+#[derive(Drop)]
 pub enum LogEntry {
     /// `105`: a transaction begins.
     Begin,

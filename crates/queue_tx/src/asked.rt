@@ -20,7 +20,7 @@ use std::ops::Bound;
 
 /// The place of an idle job among the others: by the digest of its request, then by its key. So
 /// those that make the same request stand side by side, in order of key.
-#[derive(Clone, Copy, Debug)]
+#[derive(Clone, Copy)]
 pub(crate) struct Asked {
     pub(crate) digest: u64,
     pub(crate) key: Key,

@@ -5,7 +5,7 @@ use claim_id::JobId;
 use std::cmp::Ordering;
 
 /// A key of the queue. The header comes before the procs, which stand by cluster, then by number.
-#[derive(Clone, Copy, Debug)]
+#[derive(Clone, Copy)]
 pub enum Key {
     /// `0.0`, under which the queue keeps the numbers that it gives next.
     Header,

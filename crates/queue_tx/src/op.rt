@@ -7,7 +7,6 @@ use ad_value::{Copied, Memory, Text};
 use std::alloc::Global;
 
 /// One change of the queue. Contracts see it as an `Operation`.
-#[derive(Debug)]
 pub enum Op {
     /// A new ad, without attributes. The two words are those that the log keeps beside the key.
     NewAd { key: Key, kind: Text, other: Text },

@@ -7,7 +7,6 @@ use std::alloc::Global;
 use std::marker::Model;
 
 /// Operations that stand or fall together. Contracts see the list of `Operation`s.
-#[derive(Debug)]
 pub struct Tx {
     ops: Vec<Op>,
 }

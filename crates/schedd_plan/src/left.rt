@@ -12,7 +12,7 @@ use std::marker::Model;
 use std::ops::Bound;
 
 /// A mark that a job is in the list.
-#[derive(Clone, Copy, Debug)]
+#[derive(Clone, Copy)]
 pub(crate) struct NotedJob;
 
 impl Copied for NotedJob {

@@ -18,7 +18,7 @@ use std::marker::Model;
 use std::ops::Bound;
 
 /// A look: when, and at which job. Looks stand by time, then by key.
-#[derive(Clone, Copy, Debug)]
+#[derive(Clone, Copy)]
 pub(crate) struct Look {
     pub(crate) at: u64,
     pub(crate) key: Key,
@@ -73,7 +73,7 @@ impl Ord for Look {
 }
 
 /// A mark that a look is in the list.
-#[derive(Clone, Copy, Debug)]
+#[derive(Clone, Copy)]
 pub(crate) struct Noted;
 
 impl Copied for Noted {

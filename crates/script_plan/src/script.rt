@@ -13,7 +13,7 @@ use line_text::{Line, arg_words, lines};
 use std::alloc::Global;
 
 /// What happens in the course of a run, besides what the pool does by itself.
-#[derive(Debug, Drop)]
+#[derive(Drop)]
 pub struct Script {
     /// The orders, by time, and those of one time in the order of their lines.
     pub wishes: WishList,

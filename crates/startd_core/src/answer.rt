@@ -9,7 +9,6 @@ use std::alloc::Global;
 
 /// Leave to start a run, which only an accepted Activate gives, and which can't be let go but by
 /// `spend`.
-#[derive(Debug)]
 pub struct Permit {
     run: RunNo,
     job: JobId,

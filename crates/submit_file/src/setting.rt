@@ -12,7 +12,7 @@ use std::alloc::Global;
 use std::marker::Model;
 
 /// What a line sets, before macros are replaced.
-#[derive(Debug, Drop)]
+#[derive(Drop)]
 pub struct Setting {
     /// As the first line of this name spells it.
     pub name: Text,

@@ -21,7 +21,7 @@ use std::alloc::Global;
 use submit_lines::ValueError;
 
 /// What the ads of a file have in common.
-#[derive(Clone, Copy, Debug)]
+#[derive(Clone, Copy)]
 pub struct Heading<'a> {
     pub cluster: u32,
     /// The owner of a job, where its file names no other.

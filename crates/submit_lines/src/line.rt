@@ -7,7 +7,7 @@ use ad_token::{is_blank, is_name, trimmed_text};
 use thiserror::Error;
 
 /// What a line of a submit file says.
-#[derive(Clone, Copy, Debug)]
+#[derive(Clone, Copy)]
 pub enum SubmitLine<'a> {
     /// `name = value`
     Setting { name: &'a str, value: &'a str },

@@ -9,7 +9,7 @@ use ad_value::{Memory, Text, TextList};
 use std::alloc::Global;
 
 /// What a queue statement asks for.
-#[derive(Debug, Drop)]
+#[derive(Drop)]
 pub struct Queue {
     /// How many jobs there are for each item, or in all where there are no items; `u64::MAX` for
     /// any number above it.
@@ -19,7 +19,7 @@ pub struct Queue {
 }
 
 /// The items of a queue statement, and how they are called.
-#[derive(Debug, Drop)]
+#[derive(Drop)]
 pub struct Over {
     pub variable: Text,
     pub items: TextList,

@@ -1,5 +1,5 @@
 -- Two ads that count as the same are equal.
-use Rattle.std.proofs.Common.{◌≡◌, List, Bool, true, false, true≢false, IsTrue, ◌↔◌, refl, sym, ◌∙◌, ap, eq-eqb}
+use Rattle.std.proofs.Common.{◌≡◌, List, Bool, true, false, true≢false, ◌&&◌, IsTrue, ◌↔◌, refl, sym, ◌∙◌, ap, eq-eqb}
 use Rattle.std.specs.Coded.{coded_list}
 use Rattle.std.proofs.lemmas.Bool.{eqb-true}
 use base.Stored.{Gv, gnil, gnum, gcons}
@@ -49,3 +49,9 @@ told_ad b x y h = by_both b (same_ad x y) (λ yes. same_ad-same x y (h.0 yes)) (
 
 pub told_ads : (b : Bool) (xs ys : List Attributes) → (IsTrue b ↔ (xs ≡ ys)) → b ≡ same_ads xs ys
 told_ads b xs ys h = by_both b (same_ads xs ys) (λ yes. same_ads-same xs ys (h.0 yes)) (λ yes. h.1 (same_ads-true xs ys yes))
+
+-- where the second of three tests fails, all together do
+pub second_fails : (a b d : Bool) → b ≡ false → b ≡ a && (b && d)
+second_fails true true d is = absurd (true≢false is)
+second_fails true false d is = refl
+second_fails false b d is = is

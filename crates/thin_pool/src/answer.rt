@@ -9,21 +9,21 @@ use std::alloc::Global;
 use thiserror::Error;
 
 /// What an accepted event asks for. A Launch is to be launched once.
-#[derive(Debug, Drop)]
+#[derive(Drop)]
 pub enum Answer {
     Done,
     Launch { what: Launch },
 }
 
 /// An answer as a history keeps it.
-#[derive(Debug, Drop)]
+#[derive(Drop)]
 pub enum Kept {
     Done,
     Launch { what: Launch },
 }
 
 /// The answer to an accepted event, and the same for the history.
-#[derive(Debug, Drop)]
+#[derive(Drop)]
 pub struct Stepped {
     pub answer: Answer,
     pub kept: Kept,

@@ -19,7 +19,7 @@ pub const LAST_CLUSTER_WITHOUT_JOBS: u32 = 4_294_957_293;
 
 /// How a job stands (HTCondor manual, Job ClassAd Attributes, JobStatus: Idle, Running, Held,
 /// Completed). A job that could not be started is held.
-#[derive(Clone, Copy, Debug)]
+#[derive(Clone, Copy)]
 pub enum Phase {
     Idle,
     /// `until` is the end of its lease, a reading.

@@ -1,4 +1,4 @@
-use Rattle.std.proofs.Common.{◌≡◌, length, arith, length-append, ◌∷◌, []}
+use Rattle.std.proofs.Common.{◌≡◌, length, ap, arith, length-append, ◌∷◌, []}
 use Rattle.std.proofs.lemmas.List.Elements.{All-push}
 use Rattle.condor_pool.proofs.idle_spawners.Goals as goal
 
@@ -7,3 +7,8 @@ machines-preserved g c =
     let inv = c.machines.invariant in
     rw c.in_ok-push.ensures.items
     ((let len = length-append c.machines.spawners.items (c.new.result ∷ []) in omega (arith, len, inv.0)), All-push (λ s. length s.children.items ≡ 0) c.machines.spawners.items c.new.result inv.1 c.new.ensures.idle)
+
+pub machines-init : goal.machines-init
+machines-init g c =
+    let none : length c.new-spawners.result.items ≡ 0 = ap length c.new-spawners.ensures.items in
+    (none, λ k d below. absurd (omega (arith, none, below)))

@@ -7,7 +7,7 @@ use std::sync::atomic::{AtomicU64, Ordering};
 
 /// Gives the readings of a list, each once, and then the last one, a step of seconds later at each
 /// further reading. No list counts as a list of 0, and no reading is above `LAST_READING`.
-#[derive(Debug, Drop)]
+#[derive(Drop)]
 pub struct MemClock {
     readings: Vec<u64>,
     step: u64,

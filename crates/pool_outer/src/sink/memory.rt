@@ -9,7 +9,7 @@ use std::alloc::Global;
 
 /// Keeps what was written. One of its calls may fail, by its number from 0; running out of memory
 /// counts as a fault.
-#[derive(Debug, Drop)]
+#[derive(Drop)]
 pub struct MemSink {
     bytes: Vec<u8>,
     calls: u64,

@@ -18,7 +18,6 @@ const SIGKILL: i32 = 9;
 
 /// What becomes of a program of that name: it runs on for so many looks, and the next one finds
 /// that ending.
-#[derive(Debug)]
 pub struct Script {
     pub program: Text,
     pub looks: u64,
@@ -36,7 +35,7 @@ impl Drop for Script {
 }
 
 /// How a child ends: by an exit code or a signal's number.
-#[derive(Clone, Copy, Debug, PartialEq, Eq)]
+#[derive(Clone, Copy, PartialEq, Eq)]
 pub enum ChildEnd {
     Exited(i32),
     Signalled(i32),
@@ -57,7 +56,7 @@ impl From<ChildEnd> for ChildState {
 }
 
 /// A child as it was last seen, and what the next looks will find.
-#[derive(Clone, Copy, Debug)]
+#[derive(Clone, Copy)]
 struct MemChild {
     state: ChildState,
     looks: u64,
@@ -115,7 +114,6 @@ fn child_for(scripts: &[Script], program: &str) -> MemChild
 /// Children in memory, which are started and looked at without fail. A program without a script
 /// exits with 0 at its first look, and a killed child that wasn't seen to end is ended by signal 9
 /// at its next look.
-#[derive(Debug)]
 pub struct SureSpawner {
     scripts: Vec<Script>,
     launches: Vec<Launch>,
@@ -211,7 +209,7 @@ impl Spawner for SureSpawner {
 
 /// The calls of a `MemSpawner` that fail, by their numbers from 0; each kind of call is counted by
 /// itself.
-#[derive(Debug, Drop)]
+#[derive(Drop)]
 pub struct FailingSpawns {
     pub launches: Vec<u64>,
     pub polls: Vec<u64>,
@@ -219,7 +217,6 @@ pub struct FailingSpawns {
 }
 
 /// A `SureSpawner` some of whose calls fail.
-#[derive(Debug)]
 pub struct MemSpawner {
     inner: SureSpawner,
     launches: FailingCalls,

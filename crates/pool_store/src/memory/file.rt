@@ -5,7 +5,6 @@ use ad_value::Text;
 use std::alloc::AllocError;
 
 /// A file in memory, and how many of its first bytes are solid.
-#[derive(Debug)]
 pub struct MemFile {
     name: Text,
     bytes: Vec<u8>,

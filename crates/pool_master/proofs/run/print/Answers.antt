@@ -1,4 +1,4 @@
-use Rattle.std.proofs.Common.{◌≡◌, ◌∙◌, ◌++◌, take, ap, rules}
+use Rattle.std.proofs.Common.{◌≡◌, ◌∙◌, ◌++◌, take, ap, rules, sym}
 use Rattle.pool_master.specs.UserLog.{IsUserLog}
 use Rattle.pool_master.proofs.PoolRun.{writes_part, writes_whole}
 use Rattle.pool_master.proofs.run.print.Goals as goal
@@ -14,6 +14,9 @@ returns-in-Ok-2-clause-written g c = λ told.
     let is : IsUserLog c.args.history.now c.in-Ok.text = search rules in
     let whole : g.K.Sink.written c.write_all.new.out ≡ g.K.Sink.written c.args.out.now ++ c.in-Ok.text = c.in-Ok-2.ensures.written told ∙ ap (λ t. g.K.Sink.written c.args.out.now ++ t) (search rules) in
     writes_whole c.args.history.now c.in-Ok.text _ _ is whole
+
+pub returns-in-Ok-2-clause-printed : goal.returns-in-Ok-2-clause-printed
+returns-in-Ok-2-clause-printed g c = (sym c.has_unfinished.ensures ∙ c.if-has_unfinished.false, c.in-Ok-2.ensures.quiet)
 
 pub returns-clause-written : goal.returns-clause-written
 returns-clause-written g c = λ told.
