@@ -36,7 +36,7 @@ pub fn read(alloc: Global, text: &str) -> Result<Config, ConfigError>
     configuration_in(alloc, text)
 }
 
-// The same: what the lines set, or the first refusal.
+// What the lines set, or the first refusal.
 fn configuration_in(alloc: Global, text: &str) -> Result<Config, ConfigError>
     ensures { UnlessMemory (IsConfiguration text.now) (outcome result) }
 {
