@@ -1,6 +1,6 @@
 use crate::error::TextError;
 use ad_parse::{AdError, parse_ad, print_expr};
-use ad_tree::Ad;
+use ad_tree::{Ad, Expr};
 use cases::escape;
 use std::alloc::{AllocError, Global};
 use std::fmt::Write;
@@ -19,13 +19,26 @@ pub fn read_ad(alloc: Global, text: &str) -> Result<Ad, TextError> {
 pub fn write_ad(alloc: Global, ad: &Ad, out: &mut String) -> Result<(), AllocError> {
     for place in 0..ad.len() {
         if let Some((name, expr)) = ad.attribute(place) {
-            let Ok(text) = print_expr(alloc, expr) else {
-                return Err(AllocError);
-            };
-            write!(out, "{name} = ")?;
-            escape(text.as_str(), out)?;
-            out.push_str("\\n")?;
+            write_attribute(alloc, name, expr, out)?;
         }
     }
     Ok(())
+}
+
+fn write_attribute(
+    alloc: Global,
+    name: &str,
+    expr: &Expr,
+    out: &mut String,
+) -> Result<(), AllocError> {
+    match print_expr(alloc, expr) {
+        Ok(text) => write_line(name, text.as_str(), out),
+        Err(_) => Err(AllocError),
+    }
+}
+
+fn write_line(name: &str, text: &str, out: &mut String) -> Result<(), AllocError> {
+    write!(out, "{name} = ")?;
+    escape(text, out)?;
+    out.push_str("\\n")
 }

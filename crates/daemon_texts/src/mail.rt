@@ -10,7 +10,7 @@ use crate::why::{read_how, read_why, write_how, write_why};
 use ad_tree::Ad;
 use ad_value::Text;
 use claim_id::{ClaimId, ClaimNo, JobId, Pair, RunNo, SlotId};
-use pool_mail::{Mail, Match, SlotAd};
+use pool_mail::{How, Mail, Match, SlotAd};
 use std::alloc::{AllocError, Global};
 use std::fmt::Write;
 
@@ -37,10 +37,7 @@ impl<'a> Words<'a> {
             Some((head, ad)) => (head, Some(ad)),
             None => (text, None),
         };
-        let mut words = Vec::new(alloc);
-        for word in head.split(' ') {
-            words.push(word)?;
-        }
+        let words = head.split(' ').collect(alloc)?;
         Ok(Words { words, next: 0, ad })
     }
 
@@ -202,25 +199,33 @@ fn read_short(alloc: Global, name: &str, words: &mut Words<'_>) -> Result<Mail, 
 // A mail whose first field is its run.
 fn read_of_run(name: &str, run: RunNo, words: &mut Words<'_>) -> Result<Mail, TextError> {
     match name {
-        "Alive" => Ok(Mail::Alive {
-            run,
-            until: words.number("until")?,
-        }),
-        "Seen" => Ok(Mail::Seen {
-            run,
-            until: words.number("until")?,
-        }),
+        "Alive" => read_alive(run, words),
+        "Seen" => read_seen(run, words),
         "Stop" => Ok(Mail::Stop { run }),
-        "Gone" => Ok(Mail::Gone {
-            run,
-            kept: words.truth("kept")?,
-        }),
-        "Ended" => Ok(Mail::Ended {
-            run,
-            how: read_how(words.value("how")?)?,
-        }),
+        "Gone" => read_gone(run, words),
+        "Ended" => read_ended(run, words),
         _ => Err(TextError::Form),
     }
+}
+
+fn read_alive(run: RunNo, words: &mut Words<'_>) -> Result<Mail, TextError> {
+    let until = words.number("until")?;
+    Ok(Mail::Alive { run, until })
+}
+
+fn read_seen(run: RunNo, words: &mut Words<'_>) -> Result<Mail, TextError> {
+    let until = words.number("until")?;
+    Ok(Mail::Seen { run, until })
+}
+
+fn read_gone(run: RunNo, words: &mut Words<'_>) -> Result<Mail, TextError> {
+    let kept = words.truth("kept")?;
+    Ok(Mail::Gone { run, kept })
+}
+
+fn read_ended(run: RunNo, words: &mut Words<'_>) -> Result<Mail, TextError> {
+    let how = read_how(words.value("how")?)?;
+    Ok(Mail::Ended { run, how })
 }
 
 // What an Update says first.
@@ -415,25 +420,10 @@ fn write_short(mail: &Mail, out: &mut String) -> Result<(), AllocError> {
     match mail {
         Mail::Alive { run, until } => write_run_until("Alive", *run, *until, out),
         Mail::Seen { run, until } => write_run_until("Seen", *run, *until, out),
-        Mail::Stop { run } => {
-            out.push_str("Stop run=")?;
-            write_run(*run, out)
-        }
-        Mail::Release { claim } => {
-            out.push_str("Release claim=")?;
-            write_claim_no(*claim, out)
-        }
-        Mail::Gone { run, kept } => {
-            out.push_str("Gone run=")?;
-            write_run(*run, out)?;
-            write!(out, " kept={kept}")
-        }
-        Mail::Ended { run, how } => {
-            out.push_str("Ended run=")?;
-            write_run(*run, out)?;
-            out.push_str(" how=")?;
-            write_how(*how, out)
-        }
+        Mail::Stop { run } => write_of_run("Stop", *run, out),
+        Mail::Release { claim } => write_release(*claim, out),
+        Mail::Gone { run, kept } => write_gone(*run, *kept, out),
+        Mail::Ended { run, how } => write_ended(*run, *how, out),
         Mail::Remove { job } => write_order("Remove", *job, out),
         Mail::Hold { job } => write_order("Hold", *job, out),
         Mail::Resume { job } => write_order("Resume", *job, out),
@@ -441,10 +431,30 @@ fn write_short(mail: &Mail, out: &mut String) -> Result<(), AllocError> {
     }
 }
 
-fn write_run_until(name: &str, run: RunNo, until: u64, out: &mut String) -> Result<(), AllocError> {
+fn write_of_run(name: &str, run: RunNo, out: &mut String) -> Result<(), AllocError> {
     write!(out, "{name} run=")?;
-    write_run(run, out)?;
+    write_run(run, out)
+}
+
+fn write_run_until(name: &str, run: RunNo, until: u64, out: &mut String) -> Result<(), AllocError> {
+    write_of_run(name, run, out)?;
     write!(out, " until={until}")
+}
+
+fn write_gone(run: RunNo, kept: bool, out: &mut String) -> Result<(), AllocError> {
+    write_of_run("Gone", run, out)?;
+    write!(out, " kept={kept}")
+}
+
+fn write_ended(run: RunNo, how: How, out: &mut String) -> Result<(), AllocError> {
+    write_of_run("Ended", run, out)?;
+    out.push_str(" how=")?;
+    write_how(how, out)
+}
+
+fn write_release(claim: ClaimNo, out: &mut String) -> Result<(), AllocError> {
+    out.push_str("Release claim=")?;
+    write_claim_no(claim, out)
 }
 
 fn write_order(name: &str, job: JobId, out: &mut String) -> Result<(), AllocError> {
