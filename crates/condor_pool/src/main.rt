@@ -1,19 +1,18 @@
 //! `condor_pool`: runs a pool on the system's files, clock and programs.
 #![tactic(auto)]
 
-ghost use Rattle.std.specs.Prelude.{◌≡◌, ◌⊎◌, ◌↔◌, All, IfOk, length};
+ghost use Rattle.std.specs.Prelude.{◌≡◌, ◌⊎◌, ◌↔◌, All, length};
 ghost use Rattle.pool_input.specs.declared.status.Status.{Status};
 ghost use Rattle.pool_input.specs.Words.{IsNoRun, texts};
 
-use pool_input::{Question, command_line, lone_question};
-use pool_master::{MACHINES, Ran, Status, run_pool};
-use pool_outer::{ChildSpawner, OpenGate, Spawner, StdSink, SystemClock};
+use pool_input::{lone_question, print_answer};
+use pool_master::{MACHINES, Ran, Status, idle_spawners, run_pool};
+use pool_outer::{OpenGate, Spawner, StdSink, SystemClock};
 use pool_store::DiskStore;
 use std::alloc::{AllocError, Global};
-use std::fs::File;
-use std::process::{ExitCode, Processes, id};
+use std::process::{ExitCode, id};
 use std::random::RandomSource;
-use std::rt::{Clock, Files};
+use std::rt::Clock;
 use std::sync::Wait;
 use std::thread::Threads;
 use std::{env, io};
@@ -22,36 +21,13 @@ fn main(rt: HostRuntime) -> ExitCode {
     let alloc = rt.alloc();
     let status = match words(&rt) {
         Ok(words) => match lone_question(words.as_slice()) {
-            Some(question) => answer(&rt, alloc, question),
+            Some(question) => print_answer(&rt, alloc, question),
             None => run(&rt, &rt, alloc, words.as_slice()),
         },
-        Err(error) => unread_words(&error),
+        Err(error) => Status::of_unread_words(&error),
     };
     print_line(&rt, alloc, &status);
     ExitCode::from(status.number())
-}
-
-// Prints what a lone word asks for.
-fn answer(rt: &impl Print, alloc: Global, question: Question) -> Status
-    ensures { (result ≡ Status.Done) ⊎ ((result ≡ Status.OutFault) ⊎ (result ≡ Status.Memory)) }
-{
-    match text_of(alloc, question) {
-        Ok(text) => match print!(rt; "{text}") {
-            Ok(()) => Status::Done,
-            Err(_) => Status::OutFault,
-        },
-        Err(_) => Status::Memory,
-    }
-}
-
-// How a program ends whose words can't be had: a word that isn't UTF-8 is of no form.
-fn unread_words(error: &io::Error) -> Status
-    ensures { (result ≡ Status.Usage) ⊎ (result ≡ Status.Memory) }
-{
-    match error.kind() {
-        io::ErrorKind::OutOfMemory => Status::Memory,
-        _ => Status::Usage,
-    }
 }
 
 // Runs a pool on the parts of the system. The first handle may wait. That the words are of no form
@@ -121,14 +97,6 @@ fn words(rt: &HostRuntime) -> io::Result<Vec<String>> {
     Ok(words)
 }
 
-fn text_of(alloc: Global, question: Question) -> Result<String, AllocError> {
-    let mut command = command_line(alloc)?;
-    match question {
-        Question::Help => command.render_help(),
-        Question::Version => command.render_version(),
-    }
-}
-
 // The key of the claims' secrets: random, or else of this moment and process.
 fn secret_key(rt: &HostRuntime) -> u64 {
     let mut bytes = [0u8; 8];
@@ -143,20 +111,4 @@ fn nanoseconds(rt: &impl Clock) -> u32 {
         Ok(since) => since.subsec_nanos(),
         Err(_) => 0,
     }
-}
-
-// A spawner for each machine.
-fn idle_spawners<R: Processes + Files<File = File> + Drop + Copy>(
-    alloc: Global,
-    rt: R,
-) -> Result<Vec<ChildSpawner<R>>, AllocError>
-    ensures machines { IfOk result (λ spawners. length spawners.items ≡ MACHINES) }
-    ensures idle { IfOk result
-        (λ spawners. All (λ s. ⟦<ChildSpawner<R> as Spawner>⟧.count s ≡ 0) spawners.items) }
-{
-    let mut spawners = Vec::new(alloc);
-    'machines: for _machine in 0..MACHINES {
-        spawners.push(ChildSpawner::new(alloc, rt))?;
-    }
-    Ok(spawners)
 }

@@ -16,7 +16,7 @@ const VERSION: &str = "0.1.0";
 
 /// The command line of the program: its help, its version, and how its words are read. Computes in
 /// O(1).
-pub fn command_line<'a>(alloc: Global) -> Result<Command<'a>, AllocError>
+pub(crate) fn command_line<'a>(alloc: Global) -> Result<Command<'a>, AllocError>
     ensures { IfOk result (λ c. app_of c ≡ command_line) }
 {
     let run = run_command(alloc)?;

@@ -15,9 +15,8 @@ mod status;
 mod submitting;
 mod words;
 
-pub use command::command_line;
 pub use files::MOST_BYTES;
 pub use input::load;
-pub use question::{Question, lone_question};
+pub use question::{Question, lone_question, print_answer};
 pub use status::{Kind, Status};
 pub use words::{Named, WordsError, read};

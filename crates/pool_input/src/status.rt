@@ -1,9 +1,11 @@
-ghost use Rattle.std.specs.Prelude.{◌≡◌, IfOk};
+ghost use Rattle.std.specs.Prelude.{◌≡◌, ◌⊎◌, IfOk};
 ghost use Rattle.pool_input.specs.Status.{line_of, status_number};
+ghost use Rattle.pool_input.specs.declared.status.Status.{Status};
 
 use ad_value::{Memory, Text};
 use pool_outer::Which;
 use std::alloc::Global;
+use std::io;
 
 /// Why an input file isn't accepted.
 #[derive(Clone, Copy, PartialEq, Eq)]
@@ -58,6 +60,17 @@ pub enum Status {
 }
 
 impl Status {
+    /// How a program ends whose words can't be had: a word that isn't UTF-8 is of no form. Computes
+    /// in O(1).
+    pub fn of_unread_words(error: &io::Error) -> Status
+        ensures { (result ≡ Status.Usage) ⊎ (result ≡ Status.Memory) }
+    {
+        match error.kind() {
+            io::ErrorKind::OutOfMemory => Status::Memory,
+            _ => Status::Usage,
+        }
+    }
+
     /// The line for a person, without newline; empty where the pool was closed.
     pub fn line(&self, alloc: Global) -> Result<Text, Memory>
         ensures { IfOk result (λ t. t ≡ line_of self.now) }

@@ -1,5 +1,5 @@
 use Rattle.std.proofs.Common.{inl, inr, refl}
-use Rattle.condor_pool.proofs.answer.Goals as goal
+use Rattle.pool_input.proofs.question.print_answer.Goals as goal
 
 pub returns-in-Ok-print : goal.returns-in-Ok-print
 returns-in-Ok-print g c = inl refl

@@ -1,5 +1,5 @@
 use Rattle.std.proofs.Common.{inl, inr, refl}
-use Rattle.condor_pool.proofs.unread_words.Goals as goal
+use Rattle.pool_input.proofs.status.Status.of_unread_words.Goals as goal
 
 pub returns-in-OutOfMemory : goal.returns-in-OutOfMemory
 returns-in-OutOfMemory c = inr refl

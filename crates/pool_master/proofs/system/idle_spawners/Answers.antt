@@ -1,6 +1,6 @@
 use Rattle.std.proofs.Common.{◌≡◌, length, ap, arith, length-append, ◌∷◌, []}
 use Rattle.std.proofs.lemmas.List.Elements.{All-push}
-use Rattle.condor_pool.proofs.idle_spawners.Goals as goal
+use Rattle.pool_master.proofs.system.idle_spawners.Goals as goal
 
 pub machines-preserved : goal.machines-preserved
 machines-preserved g c =
