@@ -125,10 +125,11 @@ impl<'a> Evaluation<'a> {
             (mean self.old side (tree other.now))) }
         ensures kept { OnOk result (self.new ≡ self.old) }
     {
-        match self.evaluate(side, first)? {
-            Value::Undefined => self.evaluate(side, other),
-            value => Ok(value),
+        let value = self.evaluate(side, first)?;
+        if let Value::Undefined = &value {
+            return self.evaluate(side, other);
         }
+        Ok(value)
     }
 
     // What a function makes of its arguments.

@@ -2,7 +2,7 @@ use ad_tree::{BinOp, Scope};
 use ad_value::Text;
 
 /// A kind of bracket.
-#[derive(Clone, Copy, PartialEq, Eq)]
+#[derive(Clone, Copy)]
 pub enum Bracket {
     /// `(` and `)`
     Round,
@@ -11,7 +11,6 @@ pub enum Bracket {
 }
 
 /// A token of a text. `Real`, `Range` and `Bad` stand in no expression.
-#[derive(Drop)]
 pub enum Token {
     /// `UNDEFINED`, without case
     Undefined,
@@ -51,9 +50,45 @@ pub enum Token {
     Bad,
 }
 
+impl Drop for Token {
+    fn drop(self) {
+        match self {
+            Token::Str(_text) => {}
+            Token::Name {
+                scope: _,
+                text: _text,
+            } => {}
+            Token::Undefined
+            | Token::Error
+            | Token::True
+            | Token::False
+            | Token::Int(_)
+            | Token::Op(_)
+            | Token::Not
+            | Token::Question
+            | Token::Colon
+            | Token::OrElse
+            | Token::Open(_)
+            | Token::Close(_)
+            | Token::Comma
+            | Token::Real
+            | Token::Range
+            | Token::Bad => {}
+        }
+    }
+}
+
 /// A token and the offset of its first byte, which counts bytes from 0.
-#[derive(Drop)]
 pub struct Placed {
     pub at: u64,
     pub token: Token,
+}
+
+impl Drop for Placed {
+    fn drop(self) {
+        let Placed {
+            at: _,
+            token: _token,
+        } = self;
+    }
 }
