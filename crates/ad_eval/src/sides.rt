@@ -8,7 +8,7 @@ ghost use Rattle.ad_eval.specs.Sides.{ads_of, found_tree, IsNoLarger};
 use ad_tree::{Ad, Expr, Scope};
 
 /// An ad of the two.
-#[derive(Clone, Copy, PartialEq, Eq)]
+#[derive(Clone, Copy)]
 pub enum Side {
     My,
     Target,

@@ -4,7 +4,7 @@ ghost use Rattle.ad_value.specs.Names.{same_name};
 ghost use Rattle.ad_func.specs.Function.{function_name, functions_of_length, function_named};
 
 /// What an `is..` function asks for.
-#[derive(Clone, Copy, PartialEq, Eq)]
+#[derive(Clone, Copy)]
 pub enum ValueKind {
     Undefined,
     Error,
@@ -15,7 +15,7 @@ pub enum ValueKind {
 }
 
 /// A function of the ClassAd language.
-#[derive(Clone, Copy, PartialEq, Eq)]
+#[derive(Clone, Copy)]
 pub enum Function {
     Is(ValueKind),
     IfThenElse,

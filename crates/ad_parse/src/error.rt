@@ -1,9 +1,10 @@
 use ad_value::Memory;
 use std::alloc::{AllocError, AllocFailed};
+use std::fmt;
 use thiserror::Error;
 
 /// Why a text is no expression. Offsets and lengths count bytes, offsets from 0.
-#[derive(Clone, Copy, Debug, PartialEq, Eq, Error)]
+#[derive(Clone, Copy, Error)]
 pub enum ParseError {
     /// The text, or its canonical text, is longer than 8,192 bytes.
     #[error("the expression has {length} bytes")]
@@ -22,6 +23,12 @@ pub enum ParseError {
     Syntax { at: u64 },
     #[error("out of memory")]
     Memory,
+}
+
+impl fmt::Debug for ParseError {
+    fn fmt<W: fmt::Write>(&self, f: &mut fmt::Formatter<W>) -> fmt::Result {
+        fmt::Display::fmt(self, f)
+    }
 }
 
 impl From<Memory> for ParseError {
@@ -58,7 +65,7 @@ impl<T: Drop> From<AllocFailed<T>> for ParseError {
 }
 
 /// Why a text is no ad. Lines count from 1.
-#[derive(Clone, Copy, Debug, PartialEq, Eq, Error)]
+#[derive(Clone, Copy, Error)]
 pub enum AdError {
     /// A line that is not skipped and is not `Name = expression`.
     #[error("line {line}: not an attribute")]
@@ -71,6 +78,12 @@ pub enum AdError {
     Full { line: u32 },
     #[error("out of memory")]
     Memory,
+}
+
+impl fmt::Debug for AdError {
+    fn fmt<W: fmt::Write>(&self, f: &mut fmt::Formatter<W>) -> fmt::Result {
+        fmt::Display::fmt(self, f)
+    }
 }
 
 impl From<Memory> for AdError {

@@ -7,6 +7,7 @@ use crate::table::{Table, refuse};
 use crate::tree::Expr;
 use ad_value::{Copied, Memory, Seq};
 use std::alloc::Global;
+use std::fmt;
 use std::marker::Model;
 use thiserror::Error;
 
@@ -44,13 +45,19 @@ impl Drop for Ad {
 pub type AdList = Seq<Ad>;
 
 /// Why an attribute was not set.
-#[derive(Clone, Copy, Debug, PartialEq, Eq, Error)]
+#[derive(Clone, Copy, PartialEq, Eq, Error)]
 pub enum SetError {
     /// The name is new, and the ad has as many attributes as it may.
     #[error("the ad has {max} attributes", max = MAX_ATTRIBUTES)]
     Full,
     #[error("out of memory")]
     Memory,
+}
+
+impl fmt::Debug for SetError {
+    fn fmt<W: fmt::Write>(&self, f: &mut fmt::Formatter<W>) -> fmt::Result {
+        fmt::Display::fmt(self, f)
+    }
 }
 
 impl From<Memory> for SetError {

@@ -5,7 +5,7 @@ ghost use Rattle.ad_value.specs.Truth.{truth_of};
 use crate::value::Value;
 
 /// What a value counts as where a truth value is asked for.
-#[derive(Clone, Copy, PartialEq, Eq)]
+#[derive(Clone, Copy)]
 pub enum Truth {
     True,
     False,

@@ -1,8 +1,9 @@
 use std::alloc::{AllocError, AllocFailed};
+use std::fmt;
 use thiserror::Error;
 
 /// What is wrong with a case. Lines count from 1.
-#[derive(Clone, Copy, Debug, PartialEq, Eq, Error)]
+#[derive(Clone, Copy, Error)]
 pub enum CaseError {
     /// The first field names no kind of case.
     #[error("line {line}: no such kind of case")]
@@ -24,6 +25,12 @@ pub enum CaseError {
     Form { line: u64 },
     #[error("out of memory")]
     Memory,
+}
+
+impl fmt::Debug for CaseError {
+    fn fmt<W: fmt::Write>(&self, f: &mut fmt::Formatter<W>) -> fmt::Result {
+        fmt::Display::fmt(self, f)
+    }
 }
 
 impl From<AllocError> for CaseError {

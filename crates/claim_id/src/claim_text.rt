@@ -12,7 +12,7 @@ use std::alloc::Global;
 use thiserror::Error;
 
 /// A text that is no claim's.
-#[derive(Clone, Copy, Debug, PartialEq, Eq, Error)]
+#[derive(Clone, Copy, Debug, Error)]
 #[error("not a claim, as <0:1>#4294967297#7#00000000000000ff is one")]
 pub struct NotAClaim;
 

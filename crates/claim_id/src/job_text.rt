@@ -9,7 +9,7 @@ use std::alloc::Global;
 use thiserror::Error;
 
 /// A text that is no job's.
-#[derive(Clone, Copy, Debug, PartialEq, Eq, Error)]
+#[derive(Clone, Copy, Debug, Error)]
 #[error("not a job's number, as 1.0 is one")]
 pub struct NotAJob;
 

@@ -1,7 +1,7 @@
 use crate::numbers::JobId;
 
 /// What a user wants of a job (HTCondor manual, condor_rm, condor_hold and condor_release).
-#[derive(Clone, Copy, PartialEq, Eq)]
+#[derive(Clone, Copy)]
 pub enum Verb {
     /// Take the job out of the queue.
     Remove,
@@ -12,7 +12,7 @@ pub enum Verb {
 }
 
 /// An order of the input.
-#[derive(Clone, Copy, PartialEq, Eq)]
+#[derive(Clone, Copy)]
 pub struct Wish {
     /// When the order is to be given at the earliest, a reading: seconds since 1970-01-01 00:00:00
     /// UTC.

@@ -21,7 +21,7 @@ pub enum Pair {
 }
 
 /// What makes a slot change its state or its activity.
-#[derive(Clone, Copy, PartialEq, Eq)]
+#[derive(Clone, Copy)]
 pub enum Cue {
     /// The slot's Start isn't false any more.
     StartOn,

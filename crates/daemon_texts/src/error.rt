@@ -6,7 +6,7 @@ use cases::CaseError;
 use std::alloc::{AllocError, AllocFailed};
 
 /// Why a text is not read.
-#[derive(Clone, Copy, PartialEq, Eq)]
+#[derive(Clone, Copy)]
 pub enum TextError {
     /// It is not of its form.
     Form,

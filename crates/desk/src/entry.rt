@@ -11,7 +11,7 @@ use queue_tx::Tx;
 use receipt_roll::Receipt;
 
 /// The name of an event.
-#[derive(Clone, Copy, PartialEq, Eq)]
+#[derive(Clone, Copy)]
 pub enum Sort {
     Submit,
     Order,

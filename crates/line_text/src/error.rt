@@ -1,9 +1,10 @@
 use ad_value::{Memory, Text};
 use std::alloc::{AllocError, AllocFailed};
+use std::fmt;
 use thiserror::Error;
 
 /// Why a text has no expansion.
-#[derive(Debug, Drop, Error)]
+#[derive(Drop, Error)]
 pub enum MacroError {
     /// At this place of a text, in bytes from 0, a `$` begins a reference that is none. The text is
     /// the given one, or one that was put in.
@@ -17,6 +18,12 @@ pub enum MacroError {
     TooLong { length: u64 },
     #[error("out of memory")]
     Memory,
+}
+
+impl fmt::Debug for MacroError {
+    fn fmt<W: fmt::Write>(&self, f: &mut fmt::Formatter<W>) -> fmt::Result {
+        fmt::Display::fmt(self, f)
+    }
 }
 
 impl From<Memory> for MacroError {

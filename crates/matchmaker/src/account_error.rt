@@ -1,8 +1,9 @@
 use std::alloc::{AllocError, AllocFailed};
+use std::fmt;
 use thiserror::Error;
 
 /// Why an accountant did not do what was asked. It is then as it was before.
-#[derive(Clone, Copy, Debug, PartialEq, Eq, Error)]
+#[derive(Clone, Copy, Error)]
 pub enum PriorityError {
     /// The accounts are at a later tick.
     #[error("tick {asked} is before tick {at}, at which the accounts are")]
@@ -12,6 +13,12 @@ pub enum PriorityError {
     Users,
     #[error("out of memory")]
     Memory,
+}
+
+impl fmt::Debug for PriorityError {
+    fn fmt<W: fmt::Write>(&self, f: &mut fmt::Formatter<W>) -> fmt::Result {
+        fmt::Display::fmt(self, f)
+    }
 }
 
 impl From<AllocError> for PriorityError {

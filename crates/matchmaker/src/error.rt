@@ -1,14 +1,21 @@
 use std::alloc::{AllocError, AllocFailed};
+use std::fmt;
 use thiserror::Error;
 
 /// Why a collector did not take an ad. It is then as it was before.
-#[derive(Clone, Copy, Debug, PartialEq, Eq, Error)]
+#[derive(Clone, Copy, Error)]
 pub enum CollectorError {
     /// With this name there would be more than `MAX_NAMES`.
     #[error("there are ads of as many slots as may be")]
     Full,
     #[error("out of memory")]
     Memory,
+}
+
+impl fmt::Debug for CollectorError {
+    fn fmt<W: fmt::Write>(&self, f: &mut fmt::Formatter<W>) -> fmt::Result {
+        fmt::Display::fmt(self, f)
+    }
 }
 
 impl From<AllocError> for CollectorError {

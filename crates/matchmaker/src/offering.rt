@@ -13,7 +13,7 @@ use std::cmp::Ordering;
 use std::sync::ledger::Ledger;
 
 /// How a slot is offered to a request.
-#[derive(Clone, Copy, PartialEq, Eq)]
+#[derive(Clone, Copy)]
 pub enum Offering {
     /// Not at all.
     Withheld,

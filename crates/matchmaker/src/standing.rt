@@ -13,7 +13,7 @@ pub const MAX_FACTOR: u32 = 1_000_000;
 pub const NEW_FACTOR: u32 = 1000;
 
 /// How a user stands.
-#[derive(Clone, Copy, PartialEq, Eq)]
+#[derive(Clone, Copy)]
 pub struct Standing {
     /// The real priority, in millionths; lower is better.
     pub real: u64,

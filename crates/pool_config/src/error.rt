@@ -1,12 +1,13 @@
 use ad_value::Memory;
 use line_text::MacroError;
 use std::alloc::{AllocError, AllocFailed};
+use std::fmt;
 use thiserror::Error;
 
 /// Why a text is no configuration: of its first line that is refused, the first cause that holds,
 /// in the order in which they stand here but for `Macro`, which comes before `BadValue`. Lines
 /// count from 1.
-#[derive(Debug, Drop, Error)]
+#[derive(Drop, Error)]
 pub enum ConfigError {
     /// The line is not of the form `NAME = value`, or it sets what a machine has before any
     /// machine.
@@ -35,6 +36,12 @@ pub enum ConfigError {
     NoMachine,
     #[error("out of memory")]
     Memory,
+}
+
+impl fmt::Debug for ConfigError {
+    fn fmt<W: fmt::Write>(&self, f: &mut fmt::Formatter<W>) -> fmt::Result {
+        fmt::Display::fmt(self, f)
+    }
 }
 
 impl From<Memory> for ConfigError {

@@ -4,7 +4,7 @@ ghost use Rattle.std.specs.Prelude.{◌≡◌};
 ghost use Rattle.pool_config.specs.Keys.{least_seconds};
 
 /// A time that a configuration sets, in seconds.
-#[derive(Clone, Copy, PartialEq, Eq)]
+#[derive(Clone, Copy)]
 pub enum Interval {
     ClassadLifetime,
     UpdateInterval,
@@ -20,7 +20,7 @@ pub enum Interval {
 }
 
 /// What a word sets of the pool.
-#[derive(Clone, Copy, PartialEq, Eq)]
+#[derive(Clone, Copy)]
 pub enum PoolWord {
     Spool,
     Owner,
@@ -31,7 +31,7 @@ pub enum PoolWord {
 }
 
 /// What a word sets of a machine's slots.
-#[derive(Clone, Copy, PartialEq, Eq)]
+#[derive(Clone, Copy)]
 pub enum SlotWord {
     /// How many there are.
     Slots,

@@ -11,7 +11,7 @@ use std::alloc::Global;
 use submit_file::SubmitError;
 
 /// Why a file can't be had.
-#[derive(Clone, Copy, PartialEq, Eq)]
+#[derive(Clone, Copy)]
 pub enum Fault {
     /// It is refused at that line, from 1, or as a whole (line 0).
     Refused { line: u32, kind: Kind },

@@ -6,6 +6,7 @@ ghost use Rattle.pool_input.specs.declared.files.ReadError.TheVariants.{Failed};
 
 use pool_outer::{Store, StoreError};
 use std::alloc::{AllocError, Global};
+use std::fmt;
 use thiserror::Error;
 
 /// The most bytes of a configuration or a submit file.
@@ -14,7 +15,7 @@ pub const MOST_BYTES: u64 = 1_048_576;
 /// How many bytes are asked for at once.
 const PIECE: usize = 4096;
 
-#[derive(Clone, Copy, Debug, PartialEq, Eq, Error)]
+#[derive(Clone, Copy, Error)]
 pub enum ReadError {
     #[error("no such file")]
     Missing,
@@ -24,6 +25,12 @@ pub enum ReadError {
     Failed,
     #[error("out of memory")]
     Memory,
+}
+
+impl fmt::Debug for ReadError {
+    fn fmt<W: fmt::Write>(&self, f: &mut fmt::Formatter<W>) -> fmt::Result {
+        fmt::Display::fmt(self, f)
+    }
 }
 
 impl From<StoreError> for ReadError {

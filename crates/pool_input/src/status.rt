@@ -8,7 +8,7 @@ use std::alloc::Global;
 use std::io;
 
 /// Why an input file isn't accepted.
-#[derive(Clone, Copy, PartialEq, Eq)]
+#[derive(Clone, Copy)]
 pub enum Kind {
     /// There is no such file.
     Missing,

@@ -9,6 +9,7 @@ use crate::command::{CONFIG, RUN, SUBMIT, command_line};
 use crate::form::is_run;
 use clap::ArgMatches;
 use std::alloc::{AllocError, Global};
+use std::fmt;
 use thiserror::Error;
 
 /// The files that a command names.
@@ -21,12 +22,18 @@ pub struct Named<'a> {
 }
 
 /// Why words name no files.
-#[derive(Clone, Copy, Debug, PartialEq, Eq, Error)]
+#[derive(Clone, Copy, Error)]
 pub enum WordsError {
     #[error("the words are not those of a run")]
     Usage,
     #[error("out of memory")]
     Memory,
+}
+
+impl fmt::Debug for WordsError {
+    fn fmt<W: fmt::Write>(&self, f: &mut fmt::Formatter<W>) -> fmt::Result {
+        fmt::Display::fmt(self, f)
+    }
 }
 
 /// The files that the words name, `Usage` exactly where they are not of the form

@@ -3,7 +3,7 @@ use claim_id::RunNo;
 use std::alloc::Global;
 
 /// How a run's program ended.
-#[derive(Clone, Copy, PartialEq, Eq)]
+#[derive(Clone, Copy)]
 pub enum End {
     /// It exited with this status.
     Exited(i32),
@@ -29,7 +29,7 @@ pub enum How {
 }
 
 /// The end of a run's program.
-#[derive(Clone, Copy, PartialEq, Eq)]
+#[derive(Clone, Copy)]
 pub struct Ending {
     pub run: RunNo,
     pub end: End,

@@ -7,7 +7,7 @@ pub enum Daemon {
 }
 
 /// A point that a daemon passes.
-#[derive(Clone, Copy, PartialEq, Eq)]
+#[derive(Clone, Copy)]
 pub enum Point {
     /// The schedd, immediately before it appends to its log.
     Append,

@@ -7,12 +7,19 @@ mod standard;
 
 pub use memory::MemSink;
 pub use standard::StdSink;
+use std::fmt;
 use thiserror::Error;
 
-#[derive(Clone, Copy, Debug, PartialEq, Eq, Error)]
+#[derive(Clone, Copy, PartialEq, Eq, Error)]
 pub enum SinkError {
     #[error("the output failed")]
     Failed,
+}
+
+impl fmt::Debug for SinkError {
+    fn fmt<W: fmt::Write>(&self, f: &mut fmt::Formatter<W>) -> fmt::Result {
+        fmt::Display::fmt(self, f)
+    }
 }
 
 /// An output.

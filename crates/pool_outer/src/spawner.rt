@@ -13,6 +13,7 @@ use ad_value::{Copied, Memory, Text, TextList};
 pub use child::ChildSpawner;
 pub use memory::{ChildEnd, FailingSpawns, MemSpawner, Script, SureSpawner};
 use std::alloc::{AllocError, AllocFailed, Global};
+use std::fmt;
 use thiserror::Error;
 
 /// What a child is started with. An empty folder is the program's own, and an empty file name is
@@ -60,12 +61,18 @@ pub enum ChildState {
     Signalled(i32),
 }
 
-#[derive(Clone, Copy, Debug, PartialEq, Eq, Error)]
+#[derive(Clone, Copy, PartialEq, Eq, Error)]
 pub enum SpawnError {
     #[error("the system refused")]
     Failed,
     #[error("out of memory")]
     Memory,
+}
+
+impl fmt::Debug for SpawnError {
+    fn fmt<W: fmt::Write>(&self, f: &mut fmt::Formatter<W>) -> fmt::Result {
+        fmt::Display::fmt(self, f)
+    }
 }
 
 /// Child programs, numbered from 0 in the order of their launches.

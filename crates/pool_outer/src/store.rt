@@ -6,9 +6,10 @@ ghost use Rattle.pool_outer.specs.Files.{bytes_in, ReadAt, Leaves, Elapses, Same
 
 use ad_value::Memory;
 use std::alloc::{AllocError, AllocFailed, Global};
+use std::fmt;
 use thiserror::Error;
 
-#[derive(Clone, Copy, Debug, PartialEq, Eq, Error)]
+#[derive(Clone, Copy, PartialEq, Eq, Error)]
 pub enum StoreError {
     #[error("no such file")]
     Missing,
@@ -16,6 +17,12 @@ pub enum StoreError {
     Failed,
     #[error("out of memory")]
     Memory,
+}
+
+impl fmt::Debug for StoreError {
+    fn fmt<W: fmt::Write>(&self, f: &mut fmt::Formatter<W>) -> fmt::Result {
+        fmt::Display::fmt(self, f)
+    }
 }
 
 /// Named files.

@@ -9,7 +9,7 @@ use crate::line::{boot_in, line_before};
 pub const LAST_BOOT: u32 = 2_147_483_647;
 
 /// What a file of boots says.
-#[derive(Clone, Copy, PartialEq, Eq)]
+#[derive(Clone, Copy)]
 pub struct Boots {
     /// The largest number of its whole lines; none where it has no whole line.
     pub largest: Option<u32>,

@@ -5,10 +5,11 @@ ghost use Rattle.pool_tables.specs.declared.refusal.StepError.TheVariants.{Memor
 use ad_value::Memory;
 use claim_id::{JobId, RunNo, SlotId};
 use pool_outer::Daemon;
+use std::fmt;
 use thiserror::Error;
 
 /// What is left to do in a pool that is to be closed.
-#[derive(Clone, Copy, Debug, PartialEq, Eq)]
+#[derive(Clone, Copy, Debug)]
 pub enum Unquiet {
     /// The daemon is down.
     Down(Daemon),
@@ -23,7 +24,7 @@ pub enum Unquiet {
 }
 
 /// Why an event isn't accepted: the first of these that holds.
-#[derive(Clone, Copy, Debug, PartialEq, Eq, Error)]
+#[derive(Clone, Copy, Error)]
 pub enum StepError {
     /// After a Close.
     #[error("the pool is closed")]
@@ -75,6 +76,12 @@ pub enum StepError {
     Memory,
 }
 
+impl fmt::Debug for StepError {
+    fn fmt<W: fmt::Write>(&self, f: &mut fmt::Formatter<W>) -> fmt::Result {
+        fmt::Display::fmt(self, f)
+    }
+}
+
 impl From<Memory> for StepError {
     ghost from_gives = { λ _ e. e ≡ NoMemory };
 
@@ -84,7 +91,7 @@ impl From<Memory> for StepError {
 }
 
 /// Why a mail isn't handed out: the first of these that holds.
-#[derive(Clone, Copy, Debug, PartialEq, Eq, Error)]
+#[derive(Clone, Copy, Error)]
 pub enum MailError {
     #[error("there is no mail {index}: {sent} were sent")]
     NoMail { index: u64, sent: u64 },
@@ -92,6 +99,12 @@ pub enum MailError {
     NotYours { index: u64, to: Daemon },
     #[error("out of memory")]
     Memory,
+}
+
+impl fmt::Debug for MailError {
+    fn fmt<W: fmt::Write>(&self, f: &mut fmt::Formatter<W>) -> fmt::Result {
+        fmt::Display::fmt(self, f)
+    }
 }
 
 impl From<Memory> for MailError {

@@ -14,7 +14,7 @@ pub enum Outcome {
 }
 
 /// How a job stands (HTCondor manual, Job ClassAd Attributes, JobStatus).
-#[derive(Clone, Copy, PartialEq, Eq)]
+#[derive(Clone, Copy)]
 pub enum State {
     Idle,
     Held,

@@ -3,7 +3,7 @@ use claim_id::{ClaimNo, SlotId};
 use std::alloc::Global;
 
 /// A claim that a slot holds.
-#[derive(Clone, Copy, PartialEq, Eq)]
+#[derive(Clone, Copy)]
 pub struct HeldClaim {
     pub claim: ClaimNo,
     /// The greatest number of a run that it used, and 0 before any.
@@ -11,7 +11,7 @@ pub struct HeldClaim {
 }
 
 /// What a slot remembers of its claims.
-#[derive(Clone, Copy, PartialEq, Eq)]
+#[derive(Clone, Copy)]
 pub struct SlotMark {
     /// The boot of its machine.
     pub boot: u64,
@@ -21,7 +21,7 @@ pub struct SlotMark {
 }
 
 /// What a slot of that number remembers.
-#[derive(Clone, Copy, PartialEq, Eq)]
+#[derive(Clone, Copy)]
 pub struct MarkEntry {
     pub slot: SlotId,
     pub mark: SlotMark,

@@ -3,10 +3,11 @@ use pool_outer::{StoreError, Which};
 use queue_record::{PrintError, RecordError};
 use receipt_roll::RollError;
 use std::alloc::AllocError;
+use std::fmt;
 use thiserror::Error;
 
 /// Why a log did not do what it was asked for.
-#[derive(Clone, Copy, Debug, PartialEq, Eq, Error)]
+#[derive(Clone, Copy, PartialEq, Eq, Error)]
 pub enum LogError {
     /// The first line of the file, from 1, that is no record, is too long or can't be applied; line
     /// 0 where the file differs from what the log wrote.
@@ -19,6 +20,12 @@ pub enum LogError {
     Disk,
     #[error("out of memory")]
     Memory,
+}
+
+impl fmt::Debug for LogError {
+    fn fmt<W: fmt::Write>(&self, f: &mut fmt::Formatter<W>) -> fmt::Result {
+        fmt::Display::fmt(self, f)
+    }
 }
 
 impl From<Memory> for LogError {

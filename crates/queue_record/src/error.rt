@@ -1,9 +1,10 @@
 use ad_value::Memory;
 use std::alloc::{AllocError, AllocFailed};
+use std::fmt;
 use thiserror::Error;
 
 /// Why a transaction has no text.
-#[derive(Clone, Copy, Debug, PartialEq, Eq, Error)]
+#[derive(Clone, Copy, Error)]
 pub enum PrintError {
     /// The first operation whose line would be above 16,384 bytes, or whose expression prints above
     /// 8,192. Operations count from 0.
@@ -11,6 +12,12 @@ pub enum PrintError {
     TooLong { op: u64 },
     #[error("out of memory")]
     Memory,
+}
+
+impl fmt::Debug for PrintError {
+    fn fmt<W: fmt::Write>(&self, f: &mut fmt::Formatter<W>) -> fmt::Result {
+        fmt::Display::fmt(self, f)
+    }
 }
 
 impl From<Memory> for PrintError {
@@ -36,7 +43,7 @@ impl From<AllocError> for PrintError {
 }
 
 /// Why a line is refused. Lines count from 1.
-#[derive(Clone, Copy, Debug, PartialEq, Eq, Error)]
+#[derive(Clone, Copy, Error)]
 pub enum RecordError {
     /// A line that is no record, that is a record in a wrong place, or whose operation can't be
     /// done.
@@ -47,6 +54,12 @@ pub enum RecordError {
     TooLong { line: u64 },
     #[error("out of memory")]
     Memory,
+}
+
+impl fmt::Debug for RecordError {
+    fn fmt<W: fmt::Write>(&self, f: &mut fmt::Formatter<W>) -> fmt::Result {
+        fmt::Display::fmt(self, f)
+    }
 }
 
 impl From<Memory> for RecordError {

@@ -1,9 +1,10 @@
 use ad_value::Memory;
 use std::alloc::{AllocError, AllocFailed};
+use std::fmt;
 use thiserror::Error;
 
 /// Why a transaction can't be done. Places of operations count from 0. The queue is then as it was.
-#[derive(Clone, Copy, Debug, PartialEq, Eq, Error)]
+#[derive(Clone, Copy, Error)]
 pub enum ApplyError {
     /// An ad is to be destroyed or changed that isn't there.
     #[error("operation {op}: the key is not there")]
@@ -16,6 +17,12 @@ pub enum ApplyError {
     Full { op: u64 },
     #[error("out of memory")]
     Memory,
+}
+
+impl fmt::Debug for ApplyError {
+    fn fmt<W: fmt::Write>(&self, f: &mut fmt::Formatter<W>) -> fmt::Result {
+        fmt::Display::fmt(self, f)
+    }
 }
 
 impl From<Memory> for ApplyError {

@@ -10,7 +10,7 @@ use ad_value::names::job::JOB_STATUS;
 use ad_value::names::pool::RUN_CLAIM;
 
 /// What a job of the queue is (HTCondor manual, Job ClassAd Attributes, JobStatus).
-#[derive(Clone, Copy, PartialEq, Eq)]
+#[derive(Clone, Copy)]
 pub enum JobKind {
     /// It waits for a machine.
     Idle,

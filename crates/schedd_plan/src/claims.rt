@@ -9,7 +9,7 @@ use claim_id::{ClaimId, ClaimNo, JobId};
 use std::alloc::Global;
 
 /// How far a claim has come.
-#[derive(Clone, Copy, PartialEq, Eq)]
+#[derive(Clone, Copy)]
 pub enum Stage {
     /// It was asked for, at that reading.
     Asked { at: u64 },

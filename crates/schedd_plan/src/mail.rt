@@ -10,7 +10,7 @@ use claim_id::{ClaimId, ClaimNo, JobId};
 use pool_mail::{Match, Why};
 
 /// What becomes of the claim of a run that is over.
-#[derive(Clone, Copy, PartialEq, Eq)]
+#[derive(Clone, Copy)]
 pub enum Fate {
     /// It goes.
     Goes,
@@ -21,7 +21,7 @@ pub enum Fate {
 }
 
 /// What becomes of a mail.
-#[derive(Clone, Copy, PartialEq, Eq)]
+#[derive(Clone, Copy)]
 pub enum MailRow {
     Nothing,
     /// A claim is asked for.

@@ -13,7 +13,7 @@ use claim_id::JobId;
 use queue_tx::{JobKind, Key, Queue, kind_of};
 
 /// Where a job stands.
-#[derive(Clone, Copy, PartialEq, Eq)]
+#[derive(Clone, Copy)]
 pub enum JobPlace {
     /// There is no such job.
     Nowhere,

@@ -20,7 +20,7 @@ pub const HEADER_KIND: &str = "Job";
 pub const HEADER_OTHER: &str = "Machine";
 
 /// How a job's program came to its end.
-#[derive(Clone, Copy, PartialEq, Eq)]
+#[derive(Clone, Copy)]
 pub enum Completion {
     /// It exited with this status.
     Exited(i32),
@@ -29,7 +29,7 @@ pub enum Completion {
 }
 
 /// What is to be logged of a job. A lease's end is in seconds since 1970-01-01 00:00:00 UTC.
-#[derive(Clone, Copy, PartialEq, Eq)]
+#[derive(Clone, Copy)]
 pub enum JobPlan {
     /// It is idle, under no claim.
     PutIdle {

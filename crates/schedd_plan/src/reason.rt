@@ -9,7 +9,7 @@ pub const BY_POLICY: &str = "by policy";
 pub const FAILED_TO_START: &str = "Failed to start";
 
 /// Why a job is held (HTCondor manual, Job ClassAd Attributes, HoldReason).
-#[derive(Clone, Copy, PartialEq, Eq)]
+#[derive(Clone, Copy)]
 pub enum Reason {
     /// A user holds it.
     ByCommand,

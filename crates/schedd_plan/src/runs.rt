@@ -7,7 +7,7 @@ use ad_value::Memory;
 use claim_id::{ClaimId, ClaimNo, JobId, RunNo};
 
 /// A job that is under a run of this boot of the pool.
-#[derive(Clone, Copy, PartialEq, Eq)]
+#[derive(Clone, Copy)]
 pub struct KeptRun {
     pub job: JobId,
     pub claim: ClaimId,

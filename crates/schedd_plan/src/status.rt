@@ -2,7 +2,7 @@ ghost use Rattle.std.specs.Prelude.{◌≡◌};
 ghost use Rattle.schedd_plan.specs.JobAttributes.{status_numbered};
 
 /// What a JobStatus says (HTCondor manual, Job ClassAd Attributes, JobStatus).
-#[derive(Clone, Copy, PartialEq, Eq)]
+#[derive(Clone, Copy)]
 pub enum JobStatus {
     /// 1
     Idle,

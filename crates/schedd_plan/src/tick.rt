@@ -18,7 +18,7 @@ use queue_tx::Queue;
 use std::alloc::Global;
 
 /// The first line of the tick that is due.
-#[derive(Clone, Copy, PartialEq, Eq)]
+#[derive(Clone, Copy)]
 pub enum TickLine {
     /// A job that an earlier boot left is let go.
     Left { job: JobId },
@@ -90,7 +90,7 @@ pub fn lease_end(alloc: Global, ad: &Ad, settings: &Settings, reading: u64) -> R
 // ---- runs
 
 /// What is due of a run.
-#[derive(Clone, Copy, PartialEq, Eq)]
+#[derive(Clone, Copy)]
 pub enum RunLine {
     Past,
     Lengthen,
@@ -164,7 +164,7 @@ pub fn due_run(runs: &[KeptRun], queue: &Queue, settings: &Settings, reading: u6
 // ---- claims
 
 /// What is due of a claim.
-#[derive(Clone, Copy, PartialEq, Eq)]
+#[derive(Clone, Copy)]
 pub enum ClaimLine {
     Regrant,
     Seek,

@@ -10,7 +10,7 @@ use ad_value::{Seq, Text, TextList};
 use claim_id::Wish;
 
 /// A daemon's crash.
-#[derive(Clone, Copy, PartialEq, Eq)]
+#[derive(Clone, Copy)]
 pub struct Crash {
     /// The machine whose daemon it is, by its place in the configuration; none for the schedd.
     pub machine: Option<u16>,
@@ -20,7 +20,7 @@ pub struct Crash {
 }
 
 /// A large submission that is made from a number.
-#[derive(Clone, Copy, PartialEq, Eq)]
+#[derive(Clone, Copy)]
 pub struct Load {
     /// At most `MAX_LOAD_NUMBER`.
     pub number: u32,
@@ -29,7 +29,7 @@ pub struct Load {
 }
 
 /// What a line of a script says.
-#[derive(Clone, Copy, PartialEq, Eq)]
+#[derive(Clone, Copy)]
 pub enum Entry {
     /// `at`: an order is given.
     Order(Wish),

@@ -7,7 +7,7 @@ use pool_mail::How;
 use std::alloc::Global;
 
 /// Why a run was told to go.
-#[derive(Clone, Copy, PartialEq, Eq)]
+#[derive(Clone, Copy)]
 pub enum Mark {
     /// Its schedd asked for it.
     Stopped,

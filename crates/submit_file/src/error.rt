@@ -1,13 +1,14 @@
 use ad_value::Memory;
 use line_text::MacroError;
 use std::alloc::{AllocError, AllocFailed};
+use std::fmt;
 use thiserror::Error;
 
 /// How many jobs one file may ask for.
 pub const MAX_JOBS: usize = 10_000;
 
 /// Why a submit file is refused, at which line, from 1.
-#[derive(Debug, Drop, Error)]
+#[derive(Drop, Error)]
 pub enum SubmitError {
     /// A line of no form, or arguments whose quotes are not closed.
     #[error("line {line}: not a line of a submit file")]
@@ -38,6 +39,12 @@ pub enum SubmitError {
     NoQueue,
     #[error("out of memory")]
     Memory,
+}
+
+impl fmt::Debug for SubmitError {
+    fn fmt<W: fmt::Write>(&self, f: &mut fmt::Formatter<W>) -> fmt::Result {
+        fmt::Display::fmt(self, f)
+    }
 }
 
 impl From<Memory> for SubmitError {

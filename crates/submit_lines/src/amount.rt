@@ -6,7 +6,7 @@ ghost use Rattle.submit_lines.specs.Amounts.{digits_length, suffix_of, in_units,
 use crate::number::is_decimal;
 
 /// In which unit an amount is asked for.
-#[derive(Clone, Copy, PartialEq, Eq)]
+#[derive(Clone, Copy)]
 pub enum AmountUnit {
     /// Of 1,024 bytes.
     Kib,
@@ -15,7 +15,7 @@ pub enum AmountUnit {
 }
 
 /// What a text says of an amount.
-#[derive(Clone, Copy, PartialEq, Eq)]
+#[derive(Clone, Copy)]
 pub enum Amount {
     /// It is no amount.
     Absent,
@@ -26,7 +26,7 @@ pub enum Amount {
 }
 
 // What stands after the digits of an amount.
-#[derive(Clone, Copy, PartialEq, Eq)]
+#[derive(Clone, Copy)]
 enum Suffix {
     Plain,
     Kilo,

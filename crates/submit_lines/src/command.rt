@@ -9,7 +9,7 @@ use ad_value::names::job::{
 use ad_value::names::matching::{RANK, REQUIREMENTS};
 
 /// A command that makes an attribute of a job, or that is looked at for it.
-#[derive(Clone, Copy, PartialEq, Eq)]
+#[derive(Clone, Copy)]
 pub enum Command {
     Executable,
     Arguments,

@@ -1,8 +1,9 @@
 use ad_value::Memory;
+use std::fmt;
 use thiserror::Error;
 
 /// Why a value is refused.
-#[derive(Clone, Copy, Debug, PartialEq, Eq, Error)]
+#[derive(Clone, Copy, Error)]
 pub enum ValueError {
     /// The program's name is empty, or it is not given.
     #[error("no executable")]
@@ -18,6 +19,12 @@ pub enum ValueError {
     BadExpr,
     #[error("out of memory")]
     Memory,
+}
+
+impl fmt::Debug for ValueError {
+    fn fmt<W: fmt::Write>(&self, f: &mut fmt::Formatter<W>) -> fmt::Result {
+        fmt::Display::fmt(self, f)
+    }
 }
 
 impl From<Memory> for ValueError {

@@ -4,6 +4,7 @@ ghost use Rattle.submit_lines.specs.Lines.{line_result_of, value_of, plus_line, 
 
 use crate::name::{cut_name, is_reserved, is_unsupported, past_my};
 use ad_token::{is_blank, is_name, trimmed_text};
+use std::fmt;
 use thiserror::Error;
 
 /// What a line of a submit file says.
@@ -18,7 +19,7 @@ pub enum SubmitLine<'a> {
 }
 
 /// Why a line is refused.
-#[derive(Clone, Copy, Debug, PartialEq, Eq, Error)]
+#[derive(Clone, Copy, Error)]
 pub enum LineFault {
     /// It is of no form, or it sets an attribute that is the pool's own.
     #[error("not a line of a submit file")]
@@ -26,6 +27,12 @@ pub enum LineFault {
     /// It sets a command that this pool has no use for.
     #[error("an unsupported command")]
     Unsupported,
+}
+
+impl fmt::Debug for LineFault {
+    fn fmt<W: fmt::Write>(&self, f: &mut fmt::Formatter<W>) -> fmt::Result {
+        fmt::Display::fmt(self, f)
+    }
 }
 
 /// What a line says (HTCondor manual, "Submitting a job"). Computes in O(bytes).

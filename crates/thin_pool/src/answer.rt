@@ -6,6 +6,7 @@ use ad_value::{Copied, Memory};
 use claim_id::{JobId, SlotId};
 use pool_outer::Launch;
 use std::alloc::Global;
+use std::fmt;
 use thiserror::Error;
 
 /// What an accepted event asks for. A Launch is to be launched once.
@@ -30,7 +31,7 @@ pub struct Stepped {
 }
 
 /// Why an event isn't accepted: the first of these that holds.
-#[derive(Clone, Copy, Debug, PartialEq, Eq, Error)]
+#[derive(Clone, Copy, Error)]
 pub enum StepError {
     /// After a Close.
     #[error("the pool is closed")]
@@ -54,6 +55,12 @@ pub enum StepError {
     NotQuiet,
     #[error("out of memory")]
     Memory,
+}
+
+impl fmt::Debug for StepError {
+    fn fmt<W: fmt::Write>(&self, f: &mut fmt::Formatter<W>) -> fmt::Result {
+        fmt::Display::fmt(self, f)
+    }
 }
 
 impl From<Memory> for StepError {
