@@ -8,7 +8,7 @@ ghost use Rattle.ad_eval.specs.Sides.{ads_of, found_tree, IsNoLarger};
 use ad_tree::{Ad, Expr, Scope};
 
 /// An ad of the two.
-#[derive(Clone, Copy)]
+#[derive(Clone, Copy, PartialEq, Eq)]
 pub enum Side {
     My,
     Target,
