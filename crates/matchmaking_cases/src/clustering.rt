@@ -1,9 +1,9 @@
 use crate::readers::{bad_form, job_of, text_of};
 use ad_tree::{Ad, AdList};
 use ad_value::{Copied, Memory, Seq};
+use auto_cluster::{Clusters, significant};
 use cases::{Case, CaseError, escape};
 use matchmaker::Snapshot;
-use negotiate::{Clusters, significant};
 use pool_mail::Request;
 use std::alloc::Global;
 use std::fmt::Write;

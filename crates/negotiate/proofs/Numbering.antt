@@ -5,9 +5,9 @@ use Rattle.std.specs.List.{All, AllZip}
 use Rattle.std.proofs.lemmas.Option.{slice_get_within}
 use Rattle.std.proofs.lemmas.List.Sums.{sum_by-append, sum-map}
 use Rattle.ad_tree.specs.Ad.{Attributes}
-use Rattle.negotiate.specs.Significant.{IsSignificantPart}
-use Rattle.negotiate.specs.Clustering.{Clustering, IsNumbered, AreClusters}
-use Rattle.negotiate.specs.ClusterLaws.{AgreeingJobsMatchAlike, AreAlike}
+use Rattle.auto_cluster.specs.Significant.{IsSignificantPart}
+use Rattle.auto_cluster.specs.Clustering.{Clustering, IsNumbered, AreClusters}
+use Rattle.auto_cluster.specs.Laws.{AgreeingJobsMatchAlike, AreAlike}
 use Rattle.matchmaker.specs.Offers.{fits, rank_of_slot}
 use Rattle.matchmaker.specs.Cycle.{Bidder}
 use Rattle.matchmaker.specs.Loops as loops

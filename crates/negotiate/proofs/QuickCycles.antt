@@ -2,7 +2,7 @@
 use Rattle.std.proofs.Common.{◌≡◌, List, [], map, ap, ◌∙◌, subst}
 use Rattle.std.specs.List.{AllZip}
 use Rattle.ad_tree.specs.Ad.{Attributes}
-use Rattle.negotiate.specs.Clustering.{Clustering}
+use Rattle.auto_cluster.specs.Clustering.{Clustering}
 use Rattle.matchmaker.specs.Cycle.{cycle_of}
 use Rattle.matchmaker.specs.Loops as loops
 use Rattle.matchmaker.specs.Opening.{IsOpening}

@@ -3,8 +3,8 @@ use Rattle.std.specs.Prelude.{◌≡◌, ℕ, ◌+◌, ◌*◌, ◌≤◌, List,
 use Rattle.std.specs.List.{AllZip, sum, sum_by}
 use Rattle.pool_mail.specs.declared.matching.Request.{Request}
 use Rattle.ad_tree.specs.Ad.{Attributes}
-use Rattle.negotiate.specs.Significant.{IsSignificantPart}
-use Rattle.negotiate.specs.Clustering.{Clustering, AreClusters}
+use Rattle.auto_cluster.specs.Significant.{IsSignificantPart}
+use Rattle.auto_cluster.specs.Clustering.{Clustering, AreClusters}
 use Rattle.matchmaker.specs.declared.snapshot.Snapshot.{Snapshot}
 use Rattle.matchmaker.specs.declared.course.Made.{Made}
 use Rattle.matchmaker.specs.declared.course.Bidder as code

@@ -2,18 +2,18 @@
 
 ghost use Rattle.std.specs.Prelude.{◌≡◌, [], map, IfOk, OnOk};
 ghost use Rattle.std.specs.List.{AllZip};
-ghost use Rattle.negotiate.specs.Clustering.{IsNumbered, AreClusters};
+ghost use Rattle.auto_cluster.specs.Clustering.{IsNumbered, AreClusters};
 ghost use Rattle.negotiate.specs.Parties as those;
 ghost use Rattle.matchmaker.specs.Plain.{PlainCycle};
 ghost use Rattle.matchmaker.specs.Snapshots.{IsSnapshot};
 
-use crate::Clusters;
-use crate::cluster_laws::agreeing_jobs_match_alike;
 use crate::grouping::{Clustered, Lists};
 use crate::parties::{Party, grouped_matches};
 use ad_eval::Steps;
 use ad_tree::AdList;
 use ad_value::{Copied, Memory, Seq};
+use auto_cluster::Clusters;
+use auto_cluster::laws::agreeing_jobs_match_alike;
 use matchmaker::{Bidder, Offer, Snapshot, bidders_of, matches_of};
 use pool_mail::{MatchList, Request};
 use std::alloc::Global;

@@ -1,6 +1,6 @@
 use Rattle.std.proofs.Common.{ℕ, ◌∙◌, refl, ap, List, subst}
 use Rattle.ad_tree.specs.Ad.{Attributes}
-use Rattle.negotiate.specs.Clustering.{Clustering}
+use Rattle.auto_cluster.specs.Clustering.{Clustering}
 use Rattle.negotiate.specs.Parties.{AreUnmade, IsClustered}
 use Rattle.negotiate.proofs.quick.party_of.Goals as goal
 

@@ -1,0 +1,5 @@
+pub mod Clustering
+pub mod Finding
+pub mod Laws
+pub mod Links
+pub mod Significant

@@ -1,6 +1,0 @@
-use Rattle.std.proofs.Common.{◌≡◌, ◌++◌, take}
-use Rattle.negotiate.specs.Links.{ends_from}
-use Rattle.negotiate.proofs.reaching.add_ends.Given as goal
-
-abbrev pub invariant-loop-link : goal.invariant-loop-link
-invariant-loop-link l = l.pending.items ≡ l.fn.pending.items ++ ends_from l.name (take l.link-index l.list)
