@@ -1,17 +1,18 @@
 use pool_outer::{Store, StoreError};
 use pool_store::DiskStore;
 use std::alloc::Global;
-use std::fs;
+use std::fs::File;
 use std::process::Abort;
 use std::rt::Files;
 use std::test::Fail;
+use std::{fs, io};
 
 const LOG: &str = "outer_store/log";
 
 const NEXT: &str = "outer_store/next";
 
 // What is done to a file.
-#[derive(Clone, Copy, Debug)]
+#[derive(Clone, Copy)]
 enum Change {
     Size,
     Append(&'static str),
@@ -74,17 +75,25 @@ fn answer<R: Files + Drop>(
     change: Change,
 ) -> Result<u64, StoreError> {
     match change {
-        Change::Size => return store.size(alloc, name),
-        Change::Append(text) => store.append(alloc, name, text.as_bytes())?,
-        Change::Sync => store.sync(alloc, name)?,
-        Change::Cut(size) => store.cut(alloc, name, size)?,
-        Change::Rename(to) if name != to => store.rename(alloc, name, to)?,
-        Change::Rename(_) => {}
+        Change::Size => store.size(alloc, name),
+        Change::Append(text) => done(store.append(alloc, name, text.as_bytes())),
+        Change::Sync => done(store.sync(alloc, name)),
+        Change::Cut(size) => done(store.cut(alloc, name, size)),
+        Change::Rename(to) if name != to => done(store.rename(alloc, name, to)),
+        Change::Rename(_) => DONE,
         Change::Remove => {
             let _ = fs::remove_file(rt, name);
+            DONE
         }
     }
-    Ok(0)
+}
+
+// The answer of a change that has no size.
+fn done(outcome: Result<(), StoreError>) -> Result<u64, StoreError> {
+    match outcome {
+        Ok(()) => DONE,
+        Err(error) => Err(error),
+    }
 }
 
 fn check<R: Files + Drop>(
@@ -93,22 +102,41 @@ fn check<R: Files + Drop>(
     store: &mut DiskStore<R>,
     cases: &[Case],
 ) {
-    for (name, change, want) in cases {
+    for (place, (name, change, want)) in cases.iter().enumerate() {
         let got = answer(rt, alloc, store, name, *change);
-        assert_eq!(rt; got, *want, "{change:?} of {name}");
+        assert_eq!(rt; got, *want, "change {place}, of {name}");
     }
+}
+
+fn check_text(
+    rt: &(impl Files + Abort),
+    alloc: Global,
+    name: &str,
+    want: &str,
+) -> Result<(), Fail> {
+    let text = io::read_to_string(alloc, File::open(rt, name)?)?;
+    assert_eq!(rt; text.as_str(), want);
+    Ok(())
+}
+
+fn check_store<R: Files + Drop>(
+    rt: &(impl Files + Abort),
+    alloc: Global,
+    store: &mut DiskStore<R>,
+) -> Result<(), Fail> {
+    check(rt, alloc, store, WRITTEN);
+    check_text(rt, alloc, LOG, "hell!")?;
+    check(rt, alloc, store, MOVED);
+    check_text(rt, alloc, NEXT, "hell!?")?;
+    check(rt, alloc, store, REFUSED);
+    Ok(())
 }
 
 #[test]
 fn files_of_the_system_are_written_cut_and_moved(rt: HostRuntime) -> Result<(), Fail> {
-    let alloc = rt.alloc();
     fs::create_dir(&rt, "outer_store")?;
-    let mut store = DiskStore::new(alloc, &rt);
-    check(&rt, alloc, &mut store, WRITTEN);
-    assert_eq!(rt; fs::read_to_string(&rt, LOG)?.as_str(), "hell!");
-    check(&rt, alloc, &mut store, MOVED);
-    assert_eq!(rt; fs::read_to_string(&rt, NEXT)?.as_str(), "hell!?");
-    check(&rt, alloc, &mut store, REFUSED);
+    let mut store = DiskStore::new(rt.alloc(), &rt);
+    check_store(&rt, rt.alloc(), &mut store)?;
     fs::remove_dir_all(&rt, "outer_store")?;
     Ok(())
 }

@@ -1,6 +1,6 @@
 // Answers to accepted events.
 
-use cases::{CaseError, escape};
+use cases::escape;
 use claim_id::{JobId, RunNo};
 use daemon_texts::{write_job, write_launch, write_run, write_runs};
 use pool_outer::Launch;
@@ -16,36 +16,21 @@ pub(crate) fn write_answer(
     alloc: Global,
     answer: Answer,
     out: &mut String,
-) -> Result<(), CaseError> {
+) -> Result<(), AllocError> {
     match answer {
-        Answer::Done => {
-            out.push_str("ok\tDone")?;
-            Ok(())
-        }
+        Answer::Done => out.push_str("ok\tDone"),
         Answer::Append { number, tx } => write_append(alloc, number, &tx, out),
-        Answer::Launch { permit } => {
-            write_permit(permit, out)?;
-            Ok(())
-        }
-        Answer::Kill { runs } => {
-            write_kill(&runs, out)?;
-            Ok(())
-        }
+        Answer::Launch { permit } => write_permit(permit, out),
+        Answer::Kill { runs } => write_kill(&runs, out),
     }
 }
 
-fn write_append(alloc: Global, number: u64, tx: &Tx, out: &mut String) -> Result<(), CaseError> {
+fn write_append(alloc: Global, number: u64, tx: &Tx, out: &mut String) -> Result<(), AllocError> {
     write!(out, "ok\tAppend\t{number}\t")?;
     match print_tx(alloc, tx) {
-        Ok(text) => {
-            escape(text.as_str(), out)?;
-            Ok(())
-        }
-        Err(PrintError::TooLong { .. }) => {
-            out.push_str("TooLong")?;
-            Ok(())
-        }
-        Err(PrintError::Memory) => Err(CaseError::Memory),
+        Ok(text) => escape(text.as_str(), out),
+        Err(PrintError::TooLong { .. }) => out.push_str("TooLong"),
+        Err(PrintError::Memory) => Err(AllocError),
     }
 }
 

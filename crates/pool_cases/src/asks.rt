@@ -1,6 +1,7 @@
 // What a pool is asked.
 
 use crate::fields::Fields;
+use crate::outcome::written;
 use crate::refusals::write_slot;
 use crate::views::write_view;
 use ad_value::{Copied, Memory};
@@ -37,13 +38,16 @@ fn answer_with(
         "view" => answer_view(alloc, pool, out),
         "wants" => answer_wants(alloc, pool, out),
         "look" => answer_look(alloc, pool, out),
-        _ => answer_number(alloc, case, fields, pool, out),
+        "cluster" => written(write_number(Some(u64::from(pool.cluster())), out)),
+        "due" => answer_due(alloc, fields, pool, out),
+        "next" => answer_next(fields, pool, out),
+        _ => Err(CaseError::Kind { line: case.line }),
     }
 }
 
 fn answer_view(alloc: Global, pool: &Pool, out: &mut String) -> Result<(), CaseError> {
     match copied_view(alloc, pool) {
-        Ok(view) => write_view(alloc, &view, out),
+        Ok(view) => written(write_view(alloc, &view, out)),
         Err(Memory) => Err(CaseError::Memory),
     }
 }
@@ -57,20 +61,14 @@ fn copied_view(alloc: Global, pool: &Pool) -> Result<View, Memory> {
 
 fn answer_wants(alloc: Global, pool: &Pool, out: &mut String) -> Result<(), CaseError> {
     match pool.wants(alloc) {
-        Ok(wants) => {
-            write_jobs(wants.as_slice(), out)?;
-            Ok(())
-        }
+        Ok(wants) => written(write_jobs(wants.as_slice(), out)),
         Err(Memory) => Err(CaseError::Memory),
     }
 }
 
 fn answer_look(alloc: Global, pool: &Pool, out: &mut String) -> Result<(), CaseError> {
     match pool.look(alloc) {
-        Ok(look) => {
-            write_look(&look, out)?;
-            Ok(())
-        }
+        Ok(look) => written(write_look(&look, out)),
         Err(Memory) => Err(CaseError::Memory),
     }
 }
@@ -100,27 +98,23 @@ fn write_slot_name(slot: &SlotAd, out: &mut String) -> Result<(), AllocError> {
     escape(slot.name.as_str(), out)
 }
 
-// A number, or whether something is due.
-fn answer_number(
+// `due DAEMON READING`
+fn answer_due(
     alloc: Global,
-    case: Case<'_>,
     fields: &mut Fields<'_>,
     pool: &Pool,
     out: &mut String,
 ) -> Result<(), CaseError> {
-    match case.kind {
-        "due" => {
-            let (who, reading) = (fields.daemon()?, fields.natural()?);
-            write_truth(pool.due(alloc, who, reading), out)?;
-        }
-        "cluster" => write_number(Some(u64::from(pool.cluster())), out)?,
-        "next" => {
-            let (who, from) = (fields.daemon()?, fields.natural()?);
-            write_number(pool.next(who, from), out)?;
-        }
-        _ => return Err(CaseError::Kind { line: case.line }),
-    }
-    Ok(())
+    let who = fields.daemon()?;
+    let reading = fields.natural()?;
+    written(write_truth(pool.due(alloc, who, reading), out))
+}
+
+// `next DAEMON FROM`
+fn answer_next(fields: &mut Fields<'_>, pool: &Pool, out: &mut String) -> Result<(), CaseError> {
+    let who = fields.daemon()?;
+    let from = fields.natural()?;
+    written(write_number(pool.next(who, from), out))
 }
 
 fn write_truth(truth: bool, out: &mut String) -> Result<(), AllocError> {

@@ -11,7 +11,7 @@ use crate::events::read_event;
 use crate::fields::Fields;
 use crate::matched::{read_close, read_matches, read_receive};
 use crate::opening::can_open;
-use crate::outcome::memory;
+use crate::outcome::{memory, written};
 use crate::refusals::write_refusal;
 use crate::rolls::Rolls;
 use crate::setup::SetUp;
@@ -127,10 +127,7 @@ impl OpenPool {
         let start = moment(rt);
         match read_close(rt.alloc(), case, &self.pool)? {
             Ok(event) => self.take(rt, event, start, out),
-            Err(found) => {
-                write_found(&found, out)?;
-                Ok(())
-            }
+            Err(found) => written(write_found(&found, out)),
         }
     }
 
@@ -191,10 +188,7 @@ impl OpenPool {
                 self.take_step(rt.alloc(), stepped, sent, out)
             }
             Err(StepError::Memory) => Err(CaseError::Memory),
-            Err(error) => {
-                write_refusal(error, out)?;
-                Ok(())
-            }
+            Err(error) => written(write_refusal(error, out)),
         }
     }
 

@@ -1,8 +1,6 @@
 // The abstract pool that a pool stands for.
 
 use crate::refusals::write_slot;
-use cases::CaseError;
-use claim_id::{JobId, SlotId};
 use daemon_texts::{write_claim_no, write_how, write_job, write_run};
 use pool_view::{EndReport, JobEntry, MarkEntry, Outcome, Run, State, View};
 use std::alloc::{AllocError, Global};
@@ -10,7 +8,7 @@ use std::fmt::Write;
 
 /// Appends a view: its moment and next run, its jobs, runs, marks and ends of runs, each in order
 /// and behind a tab.
-pub(crate) fn write_view(alloc: Global, view: &View, out: &mut String) -> Result<(), CaseError> {
+pub(crate) fn write_view(alloc: Global, view: &View, out: &mut String) -> Result<(), AllocError> {
     let (moment, next) = (view.moment, view.next);
     write!(out, "\tnow={moment}\tnext={next}")?;
     write_jobs(alloc, view, out)?;
@@ -21,17 +19,11 @@ pub(crate) fn write_view(alloc: Global, view: &View, out: &mut String) -> Result
 
 // ---- jobs
 
-fn write_jobs(alloc: Global, view: &View, out: &mut String) -> Result<(), CaseError> {
-    let jobs = view.jobs.as_slice();
-    let mut order: Vec<(JobId, usize)> = Vec::new(alloc);
-    for (place, entry) in jobs.iter().enumerate() {
-        order.push((entry.job, place))?;
-    }
-    order.sort()?;
-    for (_, place) in &order {
-        if let Some(entry) = jobs.get(*place) {
-            write_entry(view, entry, out)?;
-        }
+fn write_jobs(alloc: Global, view: &View, out: &mut String) -> Result<(), AllocError> {
+    let mut jobs: Vec<&JobEntry> = view.jobs.as_slice().iter().collect(alloc)?;
+    jobs.sort_by_key(|entry| entry.job)?;
+    for entry in &jobs {
+        write_entry(view, entry, out)?;
     }
     Ok(())
 }
@@ -71,16 +63,11 @@ fn write_state(state: State, out: &mut String) -> Result<(), AllocError> {
 
 // ---- runs
 
-fn write_run_list(alloc: Global, runs: &[Run], out: &mut String) -> Result<(), CaseError> {
-    let mut order: Vec<(SlotId, usize)> = Vec::new(alloc);
-    for (place, run) in runs.iter().enumerate() {
-        order.push((run.slot, place))?;
-    }
-    order.sort()?;
-    for (_, place) in &order {
-        if let Some(run) = runs.get(*place) {
-            write_run_entry(run, out)?;
-        }
+fn write_run_list(alloc: Global, runs: &[Run], out: &mut String) -> Result<(), AllocError> {
+    let mut runs: Vec<&Run> = runs.iter().collect(alloc)?;
+    runs.sort_by_key(|run| run.slot)?;
+    for run in &runs {
+        write_run_entry(run, out)?;
     }
     Ok(())
 }
@@ -98,16 +85,11 @@ fn write_run_entry(run: &Run, out: &mut String) -> Result<(), AllocError> {
 
 // ---- marks
 
-fn write_marks(alloc: Global, marks: &[MarkEntry], out: &mut String) -> Result<(), CaseError> {
-    let mut order: Vec<(SlotId, usize)> = Vec::new(alloc);
-    for (place, mark) in marks.iter().enumerate() {
-        order.push((mark.slot, place))?;
-    }
-    order.sort()?;
-    for (_, place) in &order {
-        if let Some(mark) = marks.get(*place) {
-            write_mark(mark, out)?;
-        }
+fn write_marks(alloc: Global, marks: &[MarkEntry], out: &mut String) -> Result<(), AllocError> {
+    let mut marks: Vec<&MarkEntry> = marks.iter().collect(alloc)?;
+    marks.sort_by_key(|mark| mark.slot)?;
+    for mark in &marks {
+        write_mark(mark, out)?;
     }
     Ok(())
 }
@@ -130,16 +112,11 @@ fn write_mark(entry: &MarkEntry, out: &mut String) -> Result<(), AllocError> {
 
 // ---- ends of runs
 
-fn write_reports(alloc: Global, reports: &[EndReport], out: &mut String) -> Result<(), CaseError> {
-    let mut order: Vec<(u64, usize)> = Vec::new(alloc);
-    for (place, report) in reports.iter().enumerate() {
-        order.push((report.run.number, place))?;
-    }
-    order.sort()?;
-    for (_, place) in &order {
-        if let Some(report) = reports.get(*place) {
-            write_report(report, out)?;
-        }
+fn write_reports(alloc: Global, reports: &[EndReport], out: &mut String) -> Result<(), AllocError> {
+    let mut reports: Vec<&EndReport> = reports.iter().collect(alloc)?;
+    reports.sort_by_key(|report| report.run.number)?;
+    for report in &reports {
+        write_report(report, out)?;
     }
     Ok(())
 }
