@@ -7,19 +7,8 @@ ghost use Rattle.pool_mail.specs.Seconds.{IsSeconds};
 ghost use Rattle.pool_mail.specs.declared.settings.TheConstants.{MAX_SECONDS};
 
 use crate::ids::read_number;
-use crate::mail::read_mail;
 use cases::{Case, CaseError};
-use pool_mail::{MAX_SECONDS, Mail};
-use std::alloc::Global;
-
-/// The mail that a case's field says. Computes in O(bytes).
-pub fn mail_of(alloc: Global, case: Case<'_>, field: &str) -> Result<Mail, CaseError> {
-    let text = case.text(alloc, field)?;
-    match read_mail(alloc, text.as_str()) {
-        Ok(mail) => Ok(mail),
-        Err(error) => Err(error.at_line(case.line)),
-    }
-}
+use pool_mail::MAX_SECONDS;
 
 /// The seconds that a case's field says, at most `MAX_SECONDS`. Computes in O(bytes).
 pub fn seconds_of(case: Case<'_>, field: &str) -> Result<u64, CaseError>

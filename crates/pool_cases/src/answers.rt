@@ -2,7 +2,8 @@
 
 use cases::escape;
 use claim_id::{JobId, RunNo};
-use daemon_texts::{write_job, write_launch, write_run, write_runs};
+use daemon_fields::{write_launch, write_runs};
+use daemon_texts::{write_job, write_run};
 use pool_outer::Launch;
 use pool_parts::Answer;
 use queue_record::{PrintError, print_tx};

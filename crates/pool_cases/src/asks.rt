@@ -1,11 +1,11 @@
 // What a pool is asked.
 
-use crate::fields::Fields;
 use crate::outcome::written;
 use crate::refusals::write_slot;
 use crate::views::write_view;
 use ad_value::{Copied, Memory};
 use cases::{Case, CaseError, escape};
+use daemon_fields::Fields;
 use daemon_texts::write_job;
 use pool_core::Pool;
 use pool_mail::{Request, SlotAd};

@@ -5,7 +5,6 @@ ghost use Rattle.pool_cases.specs.Marks.{IsGivenBy, IsGivenToAny, IsIdle};
 ghost use Rattle.queue_tx.specs.declared.kind.JobKind.TheVariants.{Idle};
 ghost use Rattle.queue_tx.specs.Kinds.{kind_of};
 
-use crate::fields::Fields;
 use crate::loggable_jobs::are_loggable;
 use crate::outcome::memory;
 use crate::receipts::{read_ended, read_logged, read_reopen};
@@ -14,6 +13,7 @@ use ad_tree::{Ad, AdList, Expr, SetError};
 use ad_value::names::job::PROC_ID;
 use ad_value::{Copied, Memory, Value};
 use cases::{Case, CaseError};
+use daemon_fields::Fields;
 use pool_parts::Event;
 use queue_tx::{JobKind, Tx, kind_of};
 use std::alloc::Global;

@@ -5,7 +5,6 @@
 mod answers;
 mod asks;
 mod events;
-mod fields;
 mod judging;
 mod keys;
 mod lines;

@@ -4,7 +4,6 @@ ghost use Rattle.std.specs.Prelude.{IfOk, length};
 ghost use Rattle.pool_cases.specs.Marks.{IsGivenToAny};
 
 use crate::events::read_ads;
-use crate::fields::{Fields, slot_of};
 use crate::judging::{Evidence, evidence_of, judge_pair};
 use crate::outcome::memory;
 use ad_eval::{FoundMatch, Judged, NoMatch, none_match};
@@ -12,6 +11,7 @@ use ad_tree::{Ad, AdList};
 use ad_value::{Copied, Memory};
 use cases::{Case, CaseError};
 use claim_id::{ClaimId, JobId, SlotId};
+use daemon_fields::{Fields, slot_id_of};
 use pool_core::Pool;
 use pool_mail::{Mail, Match, MatchList, Request, SlotAd};
 use pool_outer::Daemon;
@@ -227,7 +227,7 @@ fn read_match(alloc: Global, fields: &mut Fields<'_>, pool: &Pool) -> Result<Mat
 // `M:S` is the claim that the slot offers.
 fn read_offer(alloc: Global, fields: &mut Fields<'_>, pool: &Pool) -> Result<ClaimId, CaseError> {
     let field = fields.field()?;
-    match slot_of(field) {
+    match slot_id_of(field) {
         Some(slot) => there_is(fields, offered_claim(alloc, pool, slot)),
         None => fields.claim_of(field),
     }

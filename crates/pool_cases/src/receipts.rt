@@ -5,10 +5,10 @@ ghost use Rattle.pool_cases.specs.Marks.{HasMarks, IsGivenBy, IsMarked};
 ghost use Rattle.pool_rules.specs.Given.{AreOfDaemon, AreOfMachine};
 ghost use Rattle.pool_state.specs.declared.state.PoolState.{PoolState};
 
-use crate::fields::Fields;
 use crate::rolls::Rolls;
 use ad_value::Memory;
 use cases::CaseError;
+use daemon_fields::Fields;
 use pool_mail::Ending;
 use pool_outer::Daemon;
 use pool_parts::{EndingReceipts, Event};

@@ -2,11 +2,11 @@
 
 ghost use Rattle.std.specs.Prelude.{◌≡◌};
 
-use crate::fields::Fields;
 use crate::outcome::memory;
 use ad_value::{Seq, Text};
 use cases::{Case, CaseError};
 use claim_id::{Pair, SlotId, Wish};
+use daemon_fields::Fields;
 use pool_mail::{Ending, Settings, SlotAd, SlotAdList};
 use pool_outer::Daemon;
 use pool_parts::Allow;

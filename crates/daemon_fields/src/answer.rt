@@ -1,7 +1,7 @@
-use crate::ids::write_run;
 use ad_value::Text;
 use cases::escape;
 use claim_id::RunNo;
+use daemon_texts::write_run;
 use pool_outer::Launch;
 use std::alloc::AllocError;
 use std::fmt::Write;

@@ -1,7 +1,7 @@
-use crate::error::TextError;
 use ad_parse::{AdError, parse_ad, print_expr};
 use ad_tree::{Ad, Expr};
 use cases::escape;
+use daemon_texts::TextError;
 use std::alloc::{AllocError, Global};
 use std::fmt::Write;
 

@@ -4,19 +4,18 @@ ghost use Rattle.std.specs.Prelude.{◌≤◌, IfOk};
 ghost use Rattle.pool_mail.specs.declared.settings.TheConstants.{MAX_SECONDS};
 ghost use Rattle.pool_mail.specs.Seconds.{IsSeconds};
 
+use crate::ad::read_ad;
 use ad_tree::Ad;
 use ad_value::Text;
 use cases::{Case, CaseError};
 use claim_id::{ClaimId, JobId, RunNo, SlotId, Verb};
-use daemon_texts::{
-    TextError, interval_of, read_ad, read_claim, read_end, read_job, read_run, seconds_of,
-};
+use daemon_texts::{TextError, interval_of, read_claim, read_end, read_job, read_run, seconds_of};
 use pool_mail::Ending;
 use pool_outer::Daemon;
 use std::alloc::Global;
 
 /// The fields of a case, and how many of them were read. After an error it is not to be used.
-pub(crate) struct Fields<'a> {
+pub struct Fields<'a> {
     case: Case<'a>,
     fields: Vec<&'a str>,
     next: usize,
@@ -34,7 +33,7 @@ impl Drop for Fields<'_> {
 
 impl<'a> Fields<'a> {
     /// The fields of a case, of which none was read. Computes in O(bytes).
-    pub(crate) fn of(alloc: Global, case: Case<'a>) -> Result<Fields<'a>, CaseError> {
+    pub fn of(alloc: Global, case: Case<'a>) -> Result<Fields<'a>, CaseError> {
         Ok(Fields {
             case,
             fields: case.all_fields(alloc)?,
@@ -43,7 +42,7 @@ impl<'a> Fields<'a> {
     }
 
     /// The case's fault of a field that is not of its form. Computes in O(1).
-    pub(crate) fn form(&self) -> CaseError {
+    pub fn form(&self) -> CaseError {
         CaseError::Form {
             line: self.case.line,
         }
@@ -54,12 +53,12 @@ impl<'a> Fields<'a> {
     }
 
     /// How many fields were not read. Computes in O(1).
-    pub(crate) fn left(&self) -> usize {
+    pub fn left(&self) -> usize {
         self.fields.len().saturating_sub(self.next)
     }
 
     /// Nothing may be left. Computes in O(1).
-    pub(crate) fn end(&self) -> Result<(), CaseError> {
+    pub fn end(&self) -> Result<(), CaseError> {
         if self.left() == 0 {
             Ok(())
         } else {
@@ -70,7 +69,7 @@ impl<'a> Fields<'a> {
     }
 
     /// The next field. Computes in O(1).
-    pub(crate) fn field(&mut self) -> Result<&'a str, CaseError> {
+    pub fn field(&mut self) -> Result<&'a str, CaseError> {
         let Some(field) = self.fields.get(self.next) else {
             return Err(CaseError::Fields {
                 line: self.case.line,
@@ -81,13 +80,13 @@ impl<'a> Fields<'a> {
     }
 
     /// A number. Computes in O(bytes of the field).
-    pub(crate) fn natural(&mut self) -> Result<u64, CaseError> {
+    pub fn natural(&mut self) -> Result<u64, CaseError> {
         let field = self.field()?;
         self.case.natural(field)
     }
 
     /// A number of 16 bits. Computes in O(bytes of the field).
-    pub(crate) fn short(&mut self) -> Result<u16, CaseError> {
+    pub fn short(&mut self) -> Result<u16, CaseError> {
         match u16::try_from(self.natural()?) {
             Ok(number) => Ok(number),
             Err(_) => Err(CaseError::Number {
@@ -97,7 +96,7 @@ impl<'a> Fields<'a> {
     }
 
     /// Seconds, from 1 to `MAX_SECONDS`. Computes in O(bytes of the field).
-    pub(crate) fn interval(&mut self) -> Result<u64, CaseError>
+    pub fn interval(&mut self) -> Result<u64, CaseError>
         ensures { IfOk result IsSeconds }
     {
         let field = self.field()?;
@@ -105,7 +104,7 @@ impl<'a> Fields<'a> {
     }
 
     /// Seconds, at most `MAX_SECONDS`. Computes in O(bytes of the field).
-    pub(crate) fn seconds(&mut self) -> Result<u64, CaseError>
+    pub fn seconds(&mut self) -> Result<u64, CaseError>
         ensures { IfOk result (λ n. n ≤ MAX_SECONDS) }
     {
         let field = self.field()?;
@@ -113,7 +112,7 @@ impl<'a> Fields<'a> {
     }
 
     /// `true` or `false`. Computes in O(bytes of the field).
-    pub(crate) fn truth(&mut self) -> Result<bool, CaseError> {
+    pub fn truth(&mut self) -> Result<bool, CaseError> {
         match self.field()? {
             "true" => Ok(true),
             "false" => Ok(false),
@@ -122,25 +121,25 @@ impl<'a> Fields<'a> {
     }
 
     /// A text. Computes in O(bytes of the field).
-    pub(crate) fn text(&mut self, alloc: Global) -> Result<Text, CaseError> {
+    pub fn text(&mut self, alloc: Global) -> Result<Text, CaseError> {
         let field = self.field()?;
         Ok(Text::from(self.case.text(alloc, field)?))
     }
 
     /// Bytes. Computes in O(bytes of the field).
-    pub(crate) fn bytes(&mut self, alloc: Global) -> Result<Vec<u8>, CaseError> {
+    pub fn bytes(&mut self, alloc: Global) -> Result<Vec<u8>, CaseError> {
         let field = self.field()?;
         self.case.bytes(alloc, field)
     }
 
     /// An ad. Computes in O(bytes of the field).
-    pub(crate) fn ad(&mut self, alloc: Global) -> Result<Ad, CaseError> {
+    pub fn ad(&mut self, alloc: Global) -> Result<Ad, CaseError> {
         let field = self.field()?;
         self.ad_of(alloc, field)
     }
 
     /// The ad that a field says. Computes in O(bytes of the field).
-    pub(crate) fn ad_of(&self, alloc: Global, field: &str) -> Result<Ad, CaseError> {
+    pub fn ad_of(&self, alloc: Global, field: &str) -> Result<Ad, CaseError> {
         let text = self.case.text(alloc, field)?;
         match read_ad(alloc, text.as_str()) {
             Ok(ad) => Ok(ad),
@@ -149,7 +148,7 @@ impl<'a> Fields<'a> {
     }
 
     /// `C.P`. Computes in O(bytes of the field).
-    pub(crate) fn job(&mut self) -> Result<JobId, CaseError> {
+    pub fn job(&mut self) -> Result<JobId, CaseError> {
         match read_job(self.field()?) {
             Ok(job) => Ok(job),
             Err(error) => Err(self.fault(error)),
@@ -157,7 +156,7 @@ impl<'a> Fields<'a> {
     }
 
     /// The claim that a field says with its secret. Computes in O(bytes of the field).
-    pub(crate) fn claim_of(&self, field: &str) -> Result<ClaimId, CaseError> {
+    pub fn claim_of(&self, field: &str) -> Result<ClaimId, CaseError> {
         match read_claim(field) {
             Ok(claim) => Ok(claim),
             Err(error) => Err(self.fault(error)),
@@ -172,7 +171,7 @@ impl<'a> Fields<'a> {
     }
 
     /// `RUN END`, two fields. Computes in O(bytes of both).
-    pub(crate) fn ending(&mut self, alloc: Global) -> Result<Ending, CaseError> {
+    pub fn ending(&mut self, alloc: Global) -> Result<Ending, CaseError> {
         let run = self.run(alloc)?;
         match read_end(self.field()?) {
             Ok(end) => Ok(Ending { run, end }),
@@ -181,15 +180,15 @@ impl<'a> Fields<'a> {
     }
 
     /// `M:S`. Computes in O(bytes of the field).
-    pub(crate) fn slot(&mut self) -> Result<SlotId, CaseError> {
-        match slot_of(self.field()?) {
+    pub fn slot(&mut self) -> Result<SlotId, CaseError> {
+        match slot_id_of(self.field()?) {
             Some(slot) => Ok(slot),
             None => Err(self.form()),
         }
     }
 
     /// `schedd`, `startd:M` or `matchmaker`. Computes in O(bytes of the field).
-    pub(crate) fn daemon(&mut self) -> Result<Daemon, CaseError> {
+    pub fn daemon(&mut self) -> Result<Daemon, CaseError> {
         match daemon_of(self.field()?) {
             Some(who) => Ok(who),
             None => Err(self.form()),
@@ -197,7 +196,7 @@ impl<'a> Fields<'a> {
     }
 
     /// `Remove`, `Hold` or `Resume`. Computes in O(bytes of the field).
-    pub(crate) fn verb(&mut self) -> Result<Verb, CaseError> {
+    pub fn verb(&mut self) -> Result<Verb, CaseError> {
         match self.field()? {
             "Remove" => Ok(Verb::Remove),
             "Hold" => Ok(Verb::Hold),
@@ -207,7 +206,7 @@ impl<'a> Fields<'a> {
     }
 
     /// A number, or none for `-`. Computes in O(bytes of the field).
-    pub(crate) fn maybe_natural(&mut self) -> Result<Option<u64>, CaseError> {
+    pub fn maybe_natural(&mut self) -> Result<Option<u64>, CaseError> {
         let field = self.field()?;
         if field == "-" {
             return Ok(None);
@@ -217,7 +216,7 @@ impl<'a> Fields<'a> {
 }
 
 /// `M:S`. Computes in O(bytes).
-pub(crate) fn slot_of(field: &str) -> Option<SlotId> {
+pub fn slot_id_of(field: &str) -> Option<SlotId> {
     let (machine, slot) = field.split_once(':')?;
     match (machine.parse::<u16>(), slot.parse::<u16>()) {
         (Ok(machine), Ok(slot)) => Some(SlotId { machine, slot }),

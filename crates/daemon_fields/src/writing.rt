@@ -1,0 +1,201 @@
+// The text of a mail.
+
+use crate::ad::write_ad;
+use ad_value::Text;
+use claim_id::{ClaimId, ClaimNo, JobId, RunNo, SlotId};
+use daemon_texts::{
+    write_claim, write_claim_no, write_how, write_job, write_pair, write_run, write_why,
+};
+use pool_mail::{How, Mail, Match, SlotAd};
+use std::alloc::{AllocError, Global};
+use std::fmt::Write;
+
+/// Appends a mail as a field, with its escapes. Computes in O(bytes).
+pub fn write_mail(alloc: Global, mail: &Mail, out: &mut String) -> Result<(), AllocError> {
+    match mail {
+        Mail::Update(slot) => write_slot(alloc, slot, out),
+        Mail::Matched(found) => write_matched(found, out),
+        Mail::Ask {
+            claim,
+            job,
+            ad,
+            by_priority,
+        } => {
+            write_ask(*claim, *job, *by_priority, out)?;
+            write_ad(alloc, ad, out)
+        }
+        Mail::Granted { claim, job } => write_granted(*claim, *job, out),
+        Mail::Denied {
+            claim,
+            run,
+            job,
+            why,
+        } => {
+            write_denied(*claim, *run, *job, out)?;
+            write_why(*why, out)
+        }
+        Mail::Activate {
+            run,
+            job,
+            ad,
+            until,
+        } => {
+            write_activate(*run, *job, *until, out)?;
+            write_ad(alloc, ad, out)
+        }
+        _ => write_short(mail, out),
+    }
+}
+
+fn write_matched(found: &Match, out: &mut String) -> Result<(), AllocError> {
+    write_order("Matched", found.job, out)?;
+    out.push_str(" claim=")?;
+    write_claim(found.claim, out)?;
+    let by_priority = found.by_priority;
+    write!(out, " by_priority={by_priority}")
+}
+
+// All of an Ask but its ad.
+fn write_ask(
+    claim: ClaimId,
+    job: JobId,
+    by_priority: bool,
+    out: &mut String,
+) -> Result<(), AllocError> {
+    out.push_str("Ask claim=")?;
+    write_claim(claim, out)?;
+    write_order("", job, out)?;
+    write!(out, " by_priority={by_priority} ad=")
+}
+
+fn write_granted(claim: ClaimId, job: JobId, out: &mut String) -> Result<(), AllocError> {
+    out.push_str("Granted claim=")?;
+    write_claim(claim, out)?;
+    write_order("", job, out)
+}
+
+// All of a Denied but its cause.
+fn write_denied(
+    claim: ClaimNo,
+    run: Option<RunNo>,
+    job: JobId,
+    out: &mut String,
+) -> Result<(), AllocError> {
+    out.push_str("Denied claim=")?;
+    write_claim_no(claim, out)?;
+    out.push_str(" run=")?;
+    write_some_run(run, out)?;
+    write_order("", job, out)?;
+    out.push_str(" why=")
+}
+
+// All of an Activate but its ad.
+fn write_activate(run: RunNo, job: JobId, until: u64, out: &mut String) -> Result<(), AllocError> {
+    out.push_str("Activate run=")?;
+    write_run(run, out)?;
+    write_order("", job, out)?;
+    write!(out, " until={until} ad=")
+}
+
+/// Appends an answer's `ok`, and each mail behind a tab. Computes in O(bytes).
+pub fn write_mails(alloc: Global, mails: &[Mail], out: &mut String) -> Result<(), AllocError> {
+    out.push_str("ok")?;
+    for mail in mails {
+        out.push('\t')?;
+        write_mail(alloc, mail, out)?;
+    }
+    Ok(())
+}
+
+// A mail without an ad, that has at most a run, or a claim or a job, and one more field.
+fn write_short(mail: &Mail, out: &mut String) -> Result<(), AllocError> {
+    match mail {
+        Mail::Alive { run, until } => write_run_until("Alive", *run, *until, out),
+        Mail::Seen { run, until } => write_run_until("Seen", *run, *until, out),
+        Mail::Stop { run } => write_of_run("Stop", *run, out),
+        Mail::Release { claim } => write_release(*claim, out),
+        Mail::Gone { run, kept } => write_gone(*run, *kept, out),
+        Mail::Ended { run, how } => write_ended(*run, *how, out),
+        Mail::Remove { job } => write_order("Remove", *job, out),
+        Mail::Hold { job } => write_order("Hold", *job, out),
+        Mail::Resume { job } => write_order("Resume", *job, out),
+        _ => Ok(()),
+    }
+}
+
+fn write_of_run(name: &str, run: RunNo, out: &mut String) -> Result<(), AllocError> {
+    write!(out, "{name} run=")?;
+    write_run(run, out)
+}
+
+fn write_run_until(name: &str, run: RunNo, until: u64, out: &mut String) -> Result<(), AllocError> {
+    write_of_run(name, run, out)?;
+    write!(out, " until={until}")
+}
+
+fn write_gone(run: RunNo, kept: bool, out: &mut String) -> Result<(), AllocError> {
+    write_of_run("Gone", run, out)?;
+    write!(out, " kept={kept}")
+}
+
+fn write_ended(run: RunNo, how: How, out: &mut String) -> Result<(), AllocError> {
+    write_of_run("Ended", run, out)?;
+    out.push_str(" how=")?;
+    write_how(how, out)
+}
+
+fn write_release(claim: ClaimNo, out: &mut String) -> Result<(), AllocError> {
+    out.push_str("Release claim=")?;
+    write_claim_no(claim, out)
+}
+
+fn write_order(name: &str, job: JobId, out: &mut String) -> Result<(), AllocError> {
+    write!(out, "{name} job=")?;
+    write_job(job, out)
+}
+
+fn write_some_run(run: Option<RunNo>, out: &mut String) -> Result<(), AllocError> {
+    match run {
+        Some(run) => write_run(run, out),
+        None => out.push('-'),
+    }
+}
+
+fn write_some_claim(claim: Option<ClaimId>, out: &mut String) -> Result<(), AllocError> {
+    match claim {
+        Some(claim) => write_claim(claim, out),
+        None => out.push('-'),
+    }
+}
+
+fn write_slot(alloc: Global, slot: &SlotAd, out: &mut String) -> Result<(), AllocError> {
+    write_slot_id(slot.slot, out)?;
+    write_value("name", slot.name.as_str(), out)?;
+    out.push_str(" claim=")?;
+    write_some_claim(slot.claim, out)?;
+    out.push_str(" pair=")?;
+    write_pair(slot.pair, out)?;
+    write_value("user", user_text(&slot.user), out)?;
+    write_rank(slot.rank, slot.at, out)?;
+    write_ad(alloc, &slot.ad, out)
+}
+
+fn write_slot_id(slot: SlotId, out: &mut String) -> Result<(), AllocError> {
+    let SlotId { machine, slot } = slot;
+    write!(out, "Update slot={machine}:{slot}")
+}
+
+fn write_value(name: &str, value: &str, out: &mut String) -> Result<(), AllocError> {
+    write!(out, " {name}={value}")
+}
+
+fn user_text(user: &Option<Text>) -> &str {
+    match user {
+        Some(user) => user.as_str(),
+        None => "-",
+    }
+}
+
+fn write_rank(rank: i64, at: u64, out: &mut String) -> Result<(), AllocError> {
+    write!(out, " rank={rank} at={at} ad=")
+}
