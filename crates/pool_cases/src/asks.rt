@@ -1,15 +1,11 @@
 // What a pool is asked.
 
 use crate::outcome::written;
-use crate::refusals::write_slot;
-use crate::views::write_view;
 use ad_value::{Copied, Memory};
-use cases::{Case, CaseError, escape};
+use cases::{Case, CaseError};
 use daemon_fields::Fields;
-use daemon_texts::write_job;
+use pool_answers::{write_look, write_requests, write_view};
 use pool_core::Pool;
-use pool_mail::{Request, SlotAd};
-use pool_parts::Look;
 use pool_view::View;
 use std::alloc::{AllocError, Global};
 use std::fmt::Write;
@@ -61,7 +57,7 @@ fn copied_view(alloc: Global, pool: &Pool) -> Result<View, Memory> {
 
 fn answer_wants(alloc: Global, pool: &Pool, out: &mut String) -> Result<(), CaseError> {
     match pool.wants(alloc) {
-        Ok(wants) => written(write_jobs(wants.as_slice(), out)),
+        Ok(wants) => written(write_requests(wants.as_slice(), out)),
         Err(Memory) => Err(CaseError::Memory),
     }
 }
@@ -71,31 +67,6 @@ fn answer_look(alloc: Global, pool: &Pool, out: &mut String) -> Result<(), CaseE
         Ok(look) => written(write_look(&look, out)),
         Err(Memory) => Err(CaseError::Memory),
     }
-}
-
-fn write_look(look: &Look, out: &mut String) -> Result<(), AllocError> {
-    let length = look.length;
-    write!(out, "\t{length}")?;
-    write_jobs(look.idle.as_slice(), out)?;
-    for slot in look.slots.as_slice() {
-        write_slot_name(slot, out)?;
-    }
-    Ok(())
-}
-
-fn write_jobs(requests: &[Request], out: &mut String) -> Result<(), AllocError> {
-    for request in requests {
-        out.push('\t')?;
-        write_job(request.job, out)?;
-    }
-    Ok(())
-}
-
-fn write_slot_name(slot: &SlotAd, out: &mut String) -> Result<(), AllocError> {
-    out.push('\t')?;
-    write_slot(slot.slot, out)?;
-    out.push(' ')?;
-    escape(slot.name.as_str(), out)
 }
 
 // `due DAEMON READING`

@@ -2,7 +2,6 @@
 //! README.md says what each case is, and what it answers.
 #![tactic(auto)]
 
-mod answers;
 mod asks;
 mod events;
 mod judging;
@@ -14,12 +13,10 @@ mod open;
 mod opening;
 mod outcome;
 mod receipts;
-mod refusals;
 mod rolls;
 mod script;
 mod setup;
 mod times;
-mod views;
 
 use crate::lines::answer_all;
 use anyhow::Result;

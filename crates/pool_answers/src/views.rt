@@ -8,7 +8,7 @@ use std::fmt::Write;
 
 /// Appends a view: its moment and next run, its jobs, runs, marks and ends of runs, each in order
 /// and behind a tab.
-pub(crate) fn write_view(alloc: Global, view: &View, out: &mut String) -> Result<(), AllocError> {
+pub fn write_view(alloc: Global, view: &View, out: &mut String) -> Result<(), AllocError> {
     let (moment, next) = (view.moment, view.next);
     write!(out, "\tnow={moment}\tnext={next}")?;
     write_jobs(alloc, view, out)?;

@@ -13,11 +13,7 @@ use std::alloc::{AllocError, Global};
 use std::fmt::Write;
 
 /// Appends `ok` and an answer, each part behind a tab.
-pub(crate) fn write_answer(
-    alloc: Global,
-    answer: Answer,
-    out: &mut String,
-) -> Result<(), AllocError> {
+pub fn write_answer(alloc: Global, answer: Answer, out: &mut String) -> Result<(), AllocError> {
     match answer {
         Answer::Done => out.push_str("ok\tDone"),
         Answer::Append { number, tx } => write_append(alloc, number, &tx, out),

@@ -23,7 +23,7 @@ pub(crate) fn write_slot(id: SlotId, out: &mut String) -> Result<(), AllocError>
 }
 
 /// Appends a refusal: its variant, and its values in the order of its fields.
-pub(crate) fn write_refusal(error: StepError, out: &mut String) -> Result<(), AllocError> {
+pub fn write_refusal(error: StepError, out: &mut String) -> Result<(), AllocError> {
     match error {
         StepError::Closed => out.push_str("Closed"),
         StepError::Events => out.push_str("Events"),
