@@ -1,5 +1,5 @@
 -- Functions and their names.
-use Rattle.std.proofs.Common.{◌≡◌, ◌==◌, ℕ, Bool, true, false, true≢false, cond, List, [], ◌∷◌, length, Some, None, refl, ap, sym, ◌∙◌}
+use Rattle.std.proofs.Common.{◌≡◌, ◌==◌, ℕ, Bool, Decides, rules, true, false, true≢false, cond, List, [], ◌∷◌, length, Some, None, refl, ap, sym, ◌∙◌}
 use borrow.Author.Tests.{eq-eqb}
 use Rattle.std.proofs.lemmas.List.{length-map}
 use Rattle.std.specs.Char.{to_ascii_lowercase}
@@ -66,3 +66,7 @@ named_by_length x = find_among (λ f. same_name (function_name f) x) (λ f. leng
 
 pub names_function : (x : List ℕ) (f : Function) → NamesFunction x f
 names_function x f = (find_passes (λ g. same_name (function_name g) x) functions f, λ e. ap (λ l. find (λ g. bytes_eq (lowercase (function_name g)) l) functions) (sym ((bytes_decides (lowercase (function_name f)) (lowercase x)).0 e)) ∙ each_is_found f)
+
+-- A test of whether two lists are the same is that of their bytes.
+pub same_test : (b : Bool) (x y : List ℕ) → Decides b (x ≡ y) → b ≡ bytes_eq x y
+same_test b x y d = search (rules, bytes_decides)

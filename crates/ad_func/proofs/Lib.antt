@@ -1,4 +1,5 @@
 mod ArgumentLemmas
 mod NumberLemmas
+mod TextLemmas
 mod ListLemmas
 pub mod FunctionLemmas
