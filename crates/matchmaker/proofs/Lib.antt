@@ -1,6 +1,7 @@
 pub mod Choices
 pub mod Cycles
 pub mod Ending
+pub mod Fresh
 pub mod Named
 pub mod Openings
 pub mod Spins
@@ -8,3 +9,4 @@ pub mod Telling
 pub mod Ticks
 pub mod Turning
 pub mod Users
+pub mod Weights

@@ -237,6 +237,11 @@ pub put_end : {T E : Type 0} (r : Result T E) (one : KeptAd) (ks js : List KeptA
 put_end (Ok x) one ks js i s p e room same = subst AreKept (sym e) (put_missing_kept one ks i s room p)
 put_end (Err x) one ks js i s p e room same = subst AreKept (sym same) s
 
+pub put_end_is : {T E : Type 0} (r : Result T E) (one : KeptAd) (ks js : List KeptAd) (i : ℕ) → IsPlaceOf one.ad.name ks (Err i) →
+    OnOk r (js ≡ insert ks i one) → OnOk r (js ≡ with_ad one ks)
+put_end_is (Ok x) one ks js i p e = e ∙ put_missing one ks i p
+put_end_is (Err x) one ks js i p e = tt
+
 -- ---- with fewer ads
 
 pub filter_kept : (p : KeptAd → Bool) (ks : List KeptAd) → AreKept ks → AreKept (filter p ks)

@@ -1,5 +1,5 @@
 -- In which order a cycle comes to submitters and requests.
-use Rattle.std.proofs.Common.{◌≡◌, ℕ, zero, suc, ◌+◌, ◌<◌, List, [], ◌∷◌, ◌++◌, length, get_or, take, map, Bool, refl, sym, ap, ◌∙◌, arith, subst}
+use Rattle.std.proofs.Common.{◌≡◌, ℕ, ℤ, zero, suc, ◌+◌, ◌<◌, List, [], ◌∷◌, ◌++◌, length, get_or, take, map, Bool, refl, sym, ap, ◌∙◌, arith, subst}
 use Rattle.std.specs.List.{All, AllZip}
 use Rattle.std.specs.List.Sorted.{IsPermutation, IsSortedBy}
 use Rattle.std.specs.Ordering.{is_lt}
@@ -8,15 +8,17 @@ use Rattle.std.specs.Cmp.Lexicographic.{on_texts}
 use Rattle.std.proofs.lemmas.List.{get_or-map, length-map, map_push, take_more}
 use Rattle.std.proofs.lemmas.List.Elements.{All-push}
 use Rattle.std.proofs.lemmas.List.Sorted.{IsPermutation-map, All-permutation, length_permutation}
+use Rattle.ad_value.specs.declared.names.job.TheConstants.{JOB_PRIO, Q_DATE}
 use Rattle.pool_mail.specs.declared.matching.Request.{Request}
 use Rattle.matchmaker.specs.declared.snapshot.Snapshot.{Snapshot}
 use Rattle.matchmaker.specs.declared.snapshot.Submitter.{Submitter}
 use Rattle.matchmaker.specs.declared.course.Account.{Account}
 use Rattle.matchmaker.specs.declared.course.Bidder as code
 use Rattle.matchmaker.specs.declared.opening.Keyed.{Keyed}
+use Rattle.matchmaker.specs.Cycle.{account_of}
 use Rattle.matchmaker.specs.Loops.{bidder_of}
 use Rattle.matchmaker.specs.Keyed.{keyed_cmp, IsKeyed}
-use Rattle.matchmaker.specs.Opening.{request_cmp, account_cmp, IsBidderOf, IsOpening}
+use Rattle.matchmaker.specs.Opening.{number_in, request_cmp, account_cmp, IsBidderOf, IsOpening}
 
 pub sorted_map : {A B : Type 0} (f : A → B) (lt : B → B → Bool) (xs : List A) → IsSortedBy (λ x y. lt (f x) (f y)) xs → IsSortedBy lt (map f xs)
 sorted_map f lt [] up k d low high = absurd (omega arith)
@@ -29,6 +31,17 @@ sorted_map f lt (x ∷ xs) up k d low high =
 keyed_same : (now : ℕ) (k l : Keyed) → IsKeyed now k → IsKeyed now l → keyed_cmp k l ≡ request_cmp now k.request l.request
 unfolding request_cmp
 keyed_same now k l p q = rw (p.priority, p.date, q.priority, q.date) refl
+
+-- an equal request with its numbers
+pub keyed_of : (now : ℕ) (r q : Request) (priority date : ℤ) → priority ≡ number_in now r JOB_PRIO.now → date ≡ number_in now r Q_DATE.now → q ≡ r →
+    (q ≡ r) × IsKeyed now (record { priority = priority; date = date; request = q })
+keyed_of now r q priority date e f same = (
+  same,
+  record {
+    priority = e ∙ ap (λ (x : Request). number_in now x JOB_PRIO.now) (sym same);
+    date = f ∙ ap (λ (x : Request). number_in now x Q_DATE.now) (sym same);
+  },
+)
 
 by_requests : (now : ℕ) (ks : List Keyed) → All (IsKeyed now) ks → IsSortedBy (λ k l. is_lt (keyed_cmp k l)) ks →
     IsSortedBy (λ (k l : Keyed). is_lt (request_cmp now k.request l.request)) ks
@@ -84,6 +97,15 @@ pub as_many : (now : ℕ) (bs : List Submitter) (given after : List code.Bidder)
     length after ≡ length bs
 as_many now bs given after z p =
     length_permutation given after p ∙ (sym (length-map given bidder_of) ∙ sym (zip_length (IsBidderOf now) bs (map bidder_of given) z))
+
+-- an equal account with the requests in order
+pub bidder_is : (now : ℕ) (b : Submitter) (u : Account) (jobs left : List Request) → u ≡ account_of b → jobs ≡ b.jobs → IsPermutation jobs left →
+    IsSortedBy (λ r q. is_lt (request_cmp now r q)) left → IsBidderOf now b (record { account = u; left = left })
+bidder_is now b u jobs left same e p up = record {
+  account = same;
+  requests = subst (λ (rs : List Request). IsPermutation rs left) e p;
+  in_order = up;
+}
 
 -- ---- one more, for the loops
 

@@ -1,6 +1,7 @@
 -- One submitter's turn: its rows, what it takes, and the steps of its loop.
 use Rattle.std.proofs.Common.{◌≡◌, ℕ, zero, suc, ◌-◌, ◌<◌, ◌≤◌, List, [], ◌∷◌, ◌++◌, length, refl, sym, ap, ◌∙◌, arith, Option, Some, None, inl, inr}
 use Rattle.std.specs.Prelude.{◌⊎◌, option_copied}
+use Rattle.std.proofs.lemmas.List.{nil_from_length}
 use Rattle.std.specs.Borrow.{Bor}
 use Rattle.matchmaker.specs.Cycle.{choice, match_of, turn}
 use Rattle.pool_mail.specs.declared.matching.Request.{Request}
@@ -15,10 +16,18 @@ pub turn_end : (snap : Snapshot) (u : Account) (most : ℕ) (made : List Made) �
 unfolding turn
 turn_end snap u most made = refl
 
+pub turn_ended : (snap : Snapshot) (u : Account) (most : ℕ) (left rest : List Request) (made : List Made) → left ≡ rest → length rest ≡ 0 → (rest, made) ≡ turn snap u most left made
+turn_ended snap u most left rest made e z =
+    let none = nil_from_length rest z in
+    (λ i. (none i, made)) ∙ (sym (turn_end snap u most made) ∙ ap (λ rs. turn snap u most rs made) (sym none ∙ sym e))
+
 pub turn_stop : (snap : Snapshot) (u : Account) (rs : List Request) (made : List Made) → turn snap u 0 rs made ≡ (rs, made)
 unfolding turn
 turn_stop snap u [] made = refl
 turn_stop snap u (r ∷ rs) made = refl
+
+pub turn_stopped : (snap : Snapshot) (u : Account) (most : ℕ) (rs : List Request) (made : List Made) → most ≡ 0 → (rs, made) ≡ turn snap u most rs made
+turn_stopped snap u most rs made e = sym (ap (λ n. turn snap u n rs made) e ∙ turn_stop snap u rs made)
 
 pub turn_none : (snap : Snapshot) (u : Account) (most : ℕ) (r : Request) (rs : List Request) (made : List Made) →
     choice snap u made r ≡ None → turn snap u (suc most) (r ∷ rs) made ≡ turn snap u (suc most) rs made

@@ -1,5 +1,5 @@
-use Rattle.std.proofs.Common.{◌≡◌, [], ◌∙◌, ap, arith, rules}
-use Rattle.matchmaker.proofs.Turning.{turn_end, turn_stop, loop_none, loop_some}
+use Rattle.std.proofs.Common.{◌≡◌, ◌∙◌, ap, sym, arith}
+use Rattle.matchmaker.proofs.Turning.{turn_ended, turn_stopped, loop_none, loop_some}
 use Rattle.std.proofs.Common.{Vec, Global}
 use Rattle.matchmaker.specs.declared.course.Made.{Made}
 use Rattle.matchmaker.proofs.bidding.turn.Goals as goal
@@ -7,9 +7,8 @@ use Rattle.matchmaker.proofs.bidding.turn.Goals.{in-Some-2+in_ok-one+in_ok-push,
 
 pub returns-in_default : goal.returns-in_default
 returns-in_default g c =
-    let empty : c.pop_front.new.self.items ≡ [] = search rules in
-    let end = turn_end c.args.snapshot.now c.args.account.now c.loop-most.most c.loop-most.made.items in
-    cc (c.in_default.ensures.items)
+    turn_ended c.args.snapshot.now c.args.account.now c.loop-most.most c.loop-most.left.items c.pop_front.new.self.items c.loop-most.made.items
+    c.in_default.ensures.items (sym c.pop_front.new.self.ok.0 ∙ c.in_default.ensures.cases.1) ∙ c.loop-most.invariant
 
 pub loop-most-preserved : goal.loop-most-preserved
 loop-most-preserved g c = elim c.match-branch-2.branch [
@@ -27,6 +26,5 @@ loop-most-preserved g c = elim c.match-branch-2.branch [
 
 pub returns : goal.returns
 returns g c =
-    let zero : c.loop-most.most ≡ 0 = omega arith in
-    let end = turn_stop c.args.snapshot.now c.args.account.now c.loop-most.left.items c.loop-most.made.items in
-    cc
+    let zero : c.loop-most.most ≡ 0 = omega (arith, c.loop-most-test.false) in
+    turn_stopped c.args.snapshot.now c.args.account.now c.loop-most.most c.loop-most.left.items c.loop-most.made.items zero ∙ c.loop-most.invariant

@@ -4,7 +4,7 @@ use Rattle.std.proofs.lemmas.List.{drop_all}
 use Rattle.std.specs.List.{filter}
 use Rattle.matchmaker.specs.Cycle.{choice, candidates, may_choose, first_of}
 use Rattle.matchmaker.specs.Loops.{best_with, best_with_end}
-use Rattle.matchmaker.proofs.Choices.{choose_yes, choose_no}
+use Rattle.matchmaker.proofs.Choices.{chosen_better, chosen_same}
 use Rattle.matchmaker.specs.declared.snapshot.Offer.{Offer}
 use Rattle.matchmaker.proofs.choosing.choice.Goals as goal
 use Rattle.matchmaker.proofs.choosing.choice.Goals.{then-branch+in_ok-better, else-branch}
@@ -15,12 +15,14 @@ loop-slot-init g c = ap (λ (xs : List Offer). first_of c.args.snapshot.now.now 
 
 pub loop-slot-preserved : goal.loop-slot-preserved
 loop-slot-preserved g c = elim c.if-branch.branch [
-  | then-branch+in_ok-better w ↦ rw (w.best-is, w.in_ok-better.ensures)
-      (choose_yes _ _ _ (may_choose c.args.snapshot.now c.args.account.now c.args.made.now c.args.request.now) c.as_slice-slots.result.now c.loop-slot.slot-index c.slot-item.result
-      c.loop-slot-test.true c.slot-item.is (sym c.in_ok-may_choose.ensures ∙ w.if-branch.true) ∙ c.loop-slot.invariant)
-  | else-branch w ↦ rw w.best-is
-      (choose_no _ _ _ (may_choose c.args.snapshot.now c.args.account.now c.args.made.now c.args.request.now) c.as_slice-slots.result.now c.loop-slot.slot-index c.slot-item.result
-      c.loop-slot-test.true c.slot-item.is (sym c.in_ok-may_choose.ensures ∙ w.if-branch.false) ∙ c.loop-slot.invariant)
+  | then-branch+in_ok-better w ↦
+      chosen_better c.args.snapshot.now.now c.args.request.now c.loop-slot.best c.if-branch.best w.in_ok-better.field-0 (may_choose c.args.snapshot.now c.args.account.now c.args.made.now c.args.request.now) c.as_slice-slots.result.now
+      c.loop-slot.slot-index c.slot-item.result c.in_ok-may_choose.field-0 c.loop-slot-test.true c.slot-item.is c.in_ok-may_choose.ensures w.if-branch.true w.best-is w.in_ok-better.ensures
+      ∙ c.loop-slot.invariant
+  | else-branch w ↦
+      chosen_same c.args.snapshot.now.now c.args.request.now c.loop-slot.best c.if-branch.best (may_choose c.args.snapshot.now c.args.account.now c.args.made.now c.args.request.now) c.as_slice-slots.result.now
+      c.loop-slot.slot-index c.slot-item.result c.in_ok-may_choose.field-0 c.loop-slot-test.true c.slot-item.is c.in_ok-may_choose.ensures w.if-branch.false w.best-is
+      ∙ c.loop-slot.invariant
 ]
 
 pub returns : goal.returns
