@@ -1,0 +1,3 @@
+pub mod ListTexts
+pub mod MailTexts
+pub mod SlotFields

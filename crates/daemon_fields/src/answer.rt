@@ -1,3 +1,7 @@
+ghost use Rattle.std.specs.Prelude.{OnOk};
+ghost use Rattle.ad_value.specs.Writing.{AddsText};
+ghost use Rattle.daemon_fields.specs.ListTexts.{runs_text};
+
 use ad_value::Text;
 use cases::escape;
 use claim_id::RunNo;
@@ -29,7 +33,9 @@ fn write_field(text: &Text, out: &mut String) -> Result<(), AllocError> {
 
 /// Appends a list of runs, each part behind a tab: how many there are, and each. Computes in
 /// O(runs).
-pub fn write_runs(runs: &[RunNo], out: &mut String) -> Result<(), AllocError> {
+pub fn write_runs(runs: &[RunNo], out: &mut String) -> Result<(), AllocError>
+    ensures { OnOk result (AddsText out.old out.new (runs_text runs.now)) }
+{
     let count = runs.len();
     write!(out, "\t{count}")?;
     for run in runs {

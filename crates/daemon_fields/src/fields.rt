@@ -1,6 +1,8 @@
 // The fields of a case, one after the other.
 
 ghost use Rattle.std.specs.Prelude.{◌≤◌, IfOk};
+ghost use Rattle.std.specs.Option.{SomeIff};
+ghost use Rattle.daemon_fields.specs.SlotFields.{IsSlotField, slot_of};
 ghost use Rattle.pool_mail.specs.declared.settings.TheConstants.{MAX_SECONDS};
 ghost use Rattle.pool_mail.specs.Seconds.{IsSeconds};
 
@@ -216,7 +218,9 @@ impl<'a> Fields<'a> {
 }
 
 /// `M:S`. Computes in O(bytes).
-pub fn slot_id_of(field: &str) -> Option<SlotId> {
+pub fn slot_id_of(field: &str) -> Option<SlotId>
+    ensures { SomeIff result (IsSlotField field.now) (slot_of field.now) }
+{
     let (machine, slot) = field.split_once(':')?;
     match (machine.parse::<u16>(), slot.parse::<u16>()) {
         (Ok(machine), Ok(slot)) => Some(SlotId { machine, slot }),

@@ -1,5 +1,9 @@
 // The text of a mail.
 
+ghost use Rattle.std.specs.Prelude.{IfSome, OnOk};
+ghost use Rattle.ad_value.specs.Writing.{AddsText};
+ghost use Rattle.daemon_fields.specs.MailTexts.{denied_head, ended_text, gone_text, granted_text, mail_text, matched_text, of_run_text, order_text, release_text, run_until_text, short_text, some_run_text};
+
 use crate::ad::write_ad;
 use ad_value::Text;
 use claim_id::{ClaimId, ClaimNo, JobId, RunNo, SlotId};
@@ -11,7 +15,9 @@ use std::alloc::{AllocError, Global};
 use std::fmt::Write;
 
 /// Appends a mail as a field, with its escapes. Computes in O(bytes).
-pub fn write_mail(alloc: Global, mail: &Mail, out: &mut String) -> Result<(), AllocError> {
+pub fn write_mail(alloc: Global, mail: &Mail, out: &mut String) -> Result<(), AllocError>
+    ensures { IfSome (mail_text mail.now) (λ text. OnOk result (AddsText out.old out.new text)) }
+{
     match mail {
         Mail::Update(slot) => write_slot(alloc, slot, out),
         Mail::Matched(found) => write_matched(found, out),
@@ -47,7 +53,10 @@ pub fn write_mail(alloc: Global, mail: &Mail, out: &mut String) -> Result<(), Al
     }
 }
 
-fn write_matched(found: &Match, out: &mut String) -> Result<(), AllocError> {
+#[tactic(auto, unfolding(crate::specs::MailTexts::matched_text))]
+fn write_matched(found: &Match, out: &mut String) -> Result<(), AllocError>
+    ensures { OnOk result (AddsText out.old out.new (matched_text found.now)) }
+{
     write_order("Matched", found.job, out)?;
     out.push_str(" claim=")?;
     write_claim(found.claim, out)?;
@@ -68,19 +77,25 @@ fn write_ask(
     write!(out, " by_priority={by_priority} ad=")
 }
 
-fn write_granted(claim: ClaimId, job: JobId, out: &mut String) -> Result<(), AllocError> {
+#[tactic(auto, unfolding(crate::specs::MailTexts::granted_text))]
+fn write_granted(claim: ClaimId, job: JobId, out: &mut String) -> Result<(), AllocError>
+    ensures { OnOk result (AddsText out.old out.new (granted_text claim job)) }
+{
     out.push_str("Granted claim=")?;
     write_claim(claim, out)?;
     write_order("", job, out)
 }
 
 // All of a Denied but its cause.
+#[tactic(auto, unfolding(crate::specs::MailTexts::denied_head))]
 fn write_denied(
     claim: ClaimNo,
     run: Option<RunNo>,
     job: JobId,
     out: &mut String,
-) -> Result<(), AllocError> {
+) -> Result<(), AllocError>
+    ensures { OnOk result (AddsText out.old out.new (denied_head claim run job)) }
+{
     out.push_str("Denied claim=")?;
     write_claim_no(claim, out)?;
     out.push_str(" run=")?;
@@ -108,7 +123,9 @@ pub fn write_mails(alloc: Global, mails: &[Mail], out: &mut String) -> Result<()
 }
 
 // A mail without an ad, that has at most a run, or a claim or a job, and one more field.
-fn write_short(mail: &Mail, out: &mut String) -> Result<(), AllocError> {
+fn write_short(mail: &Mail, out: &mut String) -> Result<(), AllocError>
+    ensures { IfSome (short_text mail.now) (λ text. OnOk result (AddsText out.old out.new text)) }
+{
     match mail {
         Mail::Alive { run, until } => write_run_until("Alive", *run, *until, out),
         Mail::Seen { run, until } => write_run_until("Seen", *run, *until, out),
@@ -123,38 +140,58 @@ fn write_short(mail: &Mail, out: &mut String) -> Result<(), AllocError> {
     }
 }
 
-fn write_of_run(name: &str, run: RunNo, out: &mut String) -> Result<(), AllocError> {
+#[tactic(auto, unfolding(crate::specs::MailTexts::of_run_text))]
+fn write_of_run(name: &str, run: RunNo, out: &mut String) -> Result<(), AllocError>
+    ensures { OnOk result (AddsText out.old out.new (of_run_text name.now run)) }
+{
     write!(out, "{name} run=")?;
     write_run(run, out)
 }
 
-fn write_run_until(name: &str, run: RunNo, until: u64, out: &mut String) -> Result<(), AllocError> {
+#[tactic(auto, unfolding(crate::specs::MailTexts::run_until_text))]
+fn write_run_until(name: &str, run: RunNo, until: u64, out: &mut String) -> Result<(), AllocError>
+    ensures { OnOk result (AddsText out.old out.new (run_until_text name.now run until)) }
+{
     write_of_run(name, run, out)?;
     write!(out, " until={until}")
 }
 
-fn write_gone(run: RunNo, kept: bool, out: &mut String) -> Result<(), AllocError> {
+#[tactic(auto, unfolding(crate::specs::MailTexts::gone_text))]
+fn write_gone(run: RunNo, kept: bool, out: &mut String) -> Result<(), AllocError>
+    ensures { OnOk result (AddsText out.old out.new (gone_text run kept)) }
+{
     write_of_run("Gone", run, out)?;
     write!(out, " kept={kept}")
 }
 
-fn write_ended(run: RunNo, how: How, out: &mut String) -> Result<(), AllocError> {
+#[tactic(auto, unfolding(crate::specs::MailTexts::ended_text))]
+fn write_ended(run: RunNo, how: How, out: &mut String) -> Result<(), AllocError>
+    ensures { OnOk result (AddsText out.old out.new (ended_text run how)) }
+{
     write_of_run("Ended", run, out)?;
     out.push_str(" how=")?;
     write_how(how, out)
 }
 
-fn write_release(claim: ClaimNo, out: &mut String) -> Result<(), AllocError> {
+#[tactic(auto, unfolding(crate::specs::MailTexts::release_text))]
+fn write_release(claim: ClaimNo, out: &mut String) -> Result<(), AllocError>
+    ensures { OnOk result (AddsText out.old out.new (release_text claim)) }
+{
     out.push_str("Release claim=")?;
     write_claim_no(claim, out)
 }
 
-fn write_order(name: &str, job: JobId, out: &mut String) -> Result<(), AllocError> {
+#[tactic(auto, unfolding(crate::specs::MailTexts::order_text))]
+fn write_order(name: &str, job: JobId, out: &mut String) -> Result<(), AllocError>
+    ensures { OnOk result (AddsText out.old out.new (order_text name.now job)) }
+{
     write!(out, "{name} job=")?;
     write_job(job, out)
 }
 
-fn write_some_run(run: Option<RunNo>, out: &mut String) -> Result<(), AllocError> {
+fn write_some_run(run: Option<RunNo>, out: &mut String) -> Result<(), AllocError>
+    ensures { OnOk result (AddsText out.old out.new (some_run_text run)) }
+{
     match run {
         Some(run) => write_run(run, out),
         None => out.push('-'),

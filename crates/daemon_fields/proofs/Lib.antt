@@ -1,0 +1,2 @@
+pub mod TabLemmas
+mod TextLemmas
