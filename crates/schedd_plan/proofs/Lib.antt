@@ -1,1 +1,3 @@
 pub mod LeftLists
+mod PutLemmas
+mod ChangeLemmas
