@@ -1,7 +1,9 @@
 pub mod Adding
+pub mod Asked
 pub mod Consistent
 pub mod Entries
 pub mod Growing
+pub mod Idle
 pub mod Moving
 pub mod Resting
 pub mod Same

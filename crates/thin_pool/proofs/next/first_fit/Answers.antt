@@ -1,4 +1,4 @@
-use Rattle.std.proofs.Common.{◌≡◌, ◌∙◌, ◌<◌, ◌+◌, ◌||◌, ℕ, List, [], ◌∷◌, false, length, get_or, take, sym, ap, ap₂, refl, arith}
+use Rattle.std.proofs.Common.{◌≡◌, ◌∙◌, ◌<◌, ◌+◌, ◌||◌, ℕ, List, [], ◌∷◌, false, length, get_or, take, take_all, sym, ap, ap₂, refl, arith}
 use Rattle.std.proofs.lemmas.List.{take_more}
 use Rattle.std.proofs.lemmas.List.Folds.{list_any-append}
 use Rattle.std.proofs.lemmas.Option.{slice_get_read}
@@ -31,3 +31,6 @@ returns-in-Some g c =
 pub loop-slot-preserved : goal.loop-slot-preserved
 loop-slot-preserved g c =
     none_more c.args.slots.now c.args.ad.now c.args.now c.loop-slot.slot-index c.slot-item.result (omega arith) c.slot-item.is c.loop-slot.invariant (rw c.in_default.is at c.in_ok-judged.ensures.judged)
+
+pub returns : goal.returns
+returns g c = ap (λ (l : List PoolSlot). fits_any l c.args.ad.now c.args.now) (sym (take_all c.loop-slot.slot-index c.args.slots.now c.loop-slot-test.false)) ∙ c.loop-slot.invariant

@@ -1,4 +1,5 @@
 use Rattle.std.proofs.Common.{◌≡◌, ◌++◌, ◌∷◌, ◌∙◌, sym, ap}
+use Rattle.std.proofs.lemmas.List.{append-nil}
 use Rattle.std.specs.Map.Iter.{deref_pair}
 use Rattle.std.proofs.lemmas.Map.Iter.{rest_more}
 use Rattle.indexmap.specs.IndexMap.{insert_entry}
@@ -24,3 +25,13 @@ loop-slot-preserved c =
     let whole : done ++ (c.in-Some.slot.now, c.in-Some.value.now) ∷ more ≡ c.args.runs.now.entries = sym (ap (λ l. done ++ l) left) ∙ c.loop-slot.invariant in
     let put : c.insert.new.self.entries ≡ insert_entry same_slot done c.in-Some.slot.now c.in-Some.value.now = c.in_ok-insert.ensures.entries ∙ ap (insert_entry same_slot done c.in-Some.slot.now) c.in_ok-copy.ensures in
     ap (λ l. l ++ more) put ∙ copied_more slots_told done (c.in-Some.slot.now, c.in-Some.value.now) more c.args.runs.now.entries whole c.requires
+
+pub returns : goal.returns
+returns c =
+    let done = c.loop-slot.table.entries in
+    sym (append-nil done) ∙ ap (λ l. done ++ l) (sym c.in-None.ensures.steps.0) ∙ c.loop-slot.invariant
+
+pub loop-slot-init : goal.loop-slot-init
+loop-slot-init c =
+    let given : c.into_iter-slot-iterator.result ≡ c.args.runs.now.entries = c.into_iter-slot-iterator.ensures.into_iter_gives.0 in
+    ap (λ l. l ++ c.into_iter-slot-iterator.result) c.new-table.ensures.empty ∙ given

@@ -1,4 +1,4 @@
-use Rattle.std.proofs.Common.{rules, ◌≡◌, Some, None, max, sym, ap, subst, ◌∙◌}
+use Rattle.std.proofs.Common.{◌≡◌, Some, None, max, sym, ap, subst, ◌∙◌}
 use Rattle.thin_pool.specs.declared.event.Event.TheVariants.{Ended}
 use Rattle.thin_pool.specs.PoolValue.{PoolValue, pool_value, job_at}
 use Rattle.thin_pool.specs.Reactions.{with_phase, phase_after, without_run, run_of_job, with_end_of, refusal}
@@ -19,5 +19,5 @@ invariant_of-self c =
     let jobs : c.set_phase.new.jobs.entries ≡ with_phase job (phase_after own end) p.jobs = c.set_phase.ensures ∙ ap (λ ph. with_phase job ph p.jobs) c.phase_after.ensures in
     let runs : c.remove_run.new.runs.entries ≡ without_run own.claim.slot p.runs = c.remove_run.ensures in
     let next : IsSound (record (with_end_of p job end (Some own)) { latest = max p.latest reading }) = subst (λ o. IsSound (record (with_end_of p job end o) { latest = max p.latest reading })) has (after_sound p (Ended job end reading) c.self.invariant accepted) in
-    let latest : c.max-self-inside.result ≡ max old.latest reading = search rules in
+    let latest : c.max-self-inside.result ≡ max old.latest reading = c.max-self-inside.ensures in
     subst IsSound (sym (λ i. pool_value old.slots (jobs i) (runs i) old.last_cluster old.started (latest i) old.closed)) next
