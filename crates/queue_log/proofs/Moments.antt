@@ -1,5 +1,5 @@
 -- Calls of a store, one after the other.
-use Rattle.std.proofs.Common.{◌≡◌, ◌⊎◌, inl, inr, ⊎_elim, ℕ, zero, suc, ◌+◌, ◌≤◌, List, [], ◌∷◌, ◌++◌, length, take, refl, ap, sym, ◌∙◌, subst, arith}
+use Rattle.std.proofs.Common.{◌≡◌, ◌⊎◌, inl, inr, ⊎_elim, ℕ, zero, suc, ◌≤◌, List, [], ◌∷◌, ◌++◌, length, take, refl, ap, sym, ◌∙◌, subst, arith}
 use Rattle.std.specs.Prelude.{Result}
 use Rattle.pool_outer.specs.declared.store.StoreError.{StoreError}
 use Rattle.pool_outer.specs.Files.{Contents, Images, Lengths, IsImage, Leaves, Elapses, SameFiles, Syncs, bytes_in}

@@ -3,7 +3,7 @@ use Rattle.std.proofs.Common.{◌≡◌, inl, inr, ℕ, zero, suc, ◌+◌, ◌-
 use Rattle.std.specs.Str.{IsUtf8}
 use Rattle.std.proofs.lemmas.Bool.{leb-true, leb-false}
 use Rattle.std.proofs.lemmas.Str.{IsUtf8-take, IsUtf8-drop, IsCharBoundary-before_ascii, IsCharBoundary-after_ascii}
-use Rattle.pool_outer.specs.Files.{IsImage}
+use Rattle.pool_outer.specs.Files.{IsImage, bytes_in}
 use Rattle.queue_log.specs.Moments.{IsReached}
 use Rattle.queue_tx.specs.Operations.{Operation}
 use Rattle.queue_tx.specs.Queues.{KeyedAds, queue_after}
@@ -109,6 +109,10 @@ take_short (suc n) (x ∷ xs) = let r = take_short n xs in omega arith
 -- all of a file that is solid as a whole
 pub image_whole : (bytes image : List ℕ) (solid : ℕ) → length bytes ≤ solid → IsImage solid bytes image → image ≡ bytes
 image_whole bytes image solid le i = let s = i.solid_stays in i.front ∙ take_all (length image) bytes (omega arith)
+
+-- so it is where bytes were added behind others and all made solid
+pub all_solid : (bytes more image : List ℕ) (file : Option (List ℕ)) (solid : ℕ) → file ≡ Some (bytes ++ more) → solid ≡ length (bytes_in file) → IsImage solid (bytes_in file) image → image ≡ bytes ++ more
+all_solid bytes more image file solid is durable i = image_whole (bytes_in file) image solid (omega arith) i ∙ ap bytes_in is
 
 -- a prefix of bytes and more that has all the bytes
 pub front_and_more : (n : ℕ) (xs ys : List ℕ) → length xs ≤ n → take n (xs ++ ys) ≡ xs ++ take (n - length xs) ys

@@ -1,4 +1,4 @@
-use Rattle.std.proofs.Common.{◌≡◌, ◌∙◌, ◌≤◌, ◌<◌, ◌^◌, true, Some, length, take, drop, refl, sym, ap, subst, arith, rules}
+use Rattle.std.proofs.Common.{◌≡◌, ◌∙◌, ℕ, zero, suc, ◌≤◌, ◌<◌, ◌^◌, List, [], ◌∷◌, ◌++◌, true, Some, length, take, drop, refl, sym, ap, subst, arith, rules}
 use Rattle.pool_outer.specs.Files.{bytes_in}
 use Rattle.queue_log.proofs.Moments.{keeps_both, keeps_none}
 use Rattle.queue_log.specs.Files.{IsSound, MeetsBadLine}
@@ -89,6 +89,13 @@ returns-then-count-eq0 g c =
       later = let a = e.later in let b = inv.later in omega arith;
     }
 
+-- a buffer that is written to keeps some length
+kept_room : (len : ℕ) (new old : List ℕ) → 0 < length old → 0 < len → 0 < length (take len (new ++ drop (length new) old))
+kept_room zero new old some long = long
+kept_room (suc n) [] [] some long = some
+kept_room (suc n) [] (x ∷ old) some long = omega arith
+kept_room (suc n) (x ∷ new) old some long = omega arith
+
 pub pieces-preserved : goal.pieces-preserved
 pieces-preserved g c =
     let m = g.D.Store in
@@ -109,7 +116,7 @@ pieces-preserved g c =
     record {
       sound = subst IsSound (sym e.read) (sound_fed c.pieces.reader (take n c.read_piece.new.piece) inv.sound);
       good = e.good;
-      room = search rules;
+      room = kept_room c.pieces.piece.len c.read_piece.new.piece c.pieces.piece.items inv.room (subst (λ k. 0 < k) (sym c.pieces.piece.ok.0) inv.room);
       read = λ tells. (on tells).0;
       within = λ tells. (on tells).1;
       keeps = λ tells. keeps_both m.file m.solid m.moment m.left_since name old mid c.read_piece.new.store (inv.keeps tells) (c.read_piece.ensures.keeps (inv.told ∙ tells));

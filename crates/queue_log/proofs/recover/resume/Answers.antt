@@ -108,3 +108,6 @@ returns-in-Err-cut_behind g c =
       known = λ other k. cut.known other (e.known other k);
       told = cut.told ∙ e.told;
     }
+
+pub opening_of-requires : goal.opening_of-requires
+opening_of-requires g c = c.in-Ok.ensures.logged

@@ -1,5 +1,7 @@
 -- Two transactions are the same where their operations are.
-use Rattle.std.proofs.Common.{◌≡◌, arith, sym, ◌∙◌, refl, map, true≢false}
+use Rattle.std.proofs.Common.{◌≡◌, List, length, arith, ap, sym, ◌∙◌, refl, map, true≢false}
+use Rattle.std.proofs.lemmas.List.{length-map}
+use Rattle.queue_tx.specs.declared.op.Op.{Op}
 use Rattle.queue_tx.specs.Operations.{operation}
 use Rattle.ad_tree.proofs.TreeLemmas.{same_at, more_same, all_same}
 use Rattle.queue_log.proofs.same.is_same_tx.Goals as goal
@@ -24,3 +26,12 @@ pub returns : goal.returns
 returns c =
     let all = all_same operation c.ops-ops.result.now c.ops-others.result.now c.loop-i.i (omega arith) c.loop-i.invariant.0 c.loop-i.invariant.1 in
     (λ _. sym c.ops-ops.ensures ∙ all ∙ c.ops-others.ensures, λ _. refl)
+
+same_long : (xs ys : List Op) → map operation xs ≡ map operation ys → length xs ≡ length ys
+same_long xs ys e = sym (length-map xs operation) ∙ ap length e ∙ length-map ys operation
+
+pub returns-then-ops-others : goal.returns-then-ops-others
+returns-then-ops-others c = (
+  λ h. absurd (true≢false (sym h)),
+  λ e. absurd (c.if-ops-others.true (same_long c.ops-ops.result.now c.ops-others.result.now (c.ops-ops.ensures ∙ e ∙ sym c.ops-others.ensures))),
+)

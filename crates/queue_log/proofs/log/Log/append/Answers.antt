@@ -1,9 +1,12 @@
-use Rattle.std.proofs.Common.{◌≡◌, ◌∙◌, ◌++◌, ◌∷◌, [], List, ℕ, Option, Some, None, Ok, true, ap, sym, subst}
+use Rattle.std.proofs.Common.{◌≡◌, ◌∙◌, inl, ◌++◌, ◌∷◌, [], List, length, ℕ, Option, Some, None, Ok, true, ap, sym, subst}
 use Rattle.pool_outer.specs.Files.{bytes_in, Leaves}
+use Rattle.receipt_roll.specs.Values.{RollMark, ReceiptValue}
 use Rattle.queue_tx.specs.Operations.{Operation}
 use Rattle.queue_tx.specs.Queues.{KeyedAds, queue_after, with_changes}
 use Rattle.queue_log.specs.declared.log.Halt.{Halt}
 use Rattle.queue_log.specs.Logs.{IsWhole, KeepsLog}
+use Rattle.queue_log.specs.Stands.{IsBeforeOrAfter}
+use Rattle.queue_log.proofs.Moments.{begins}
 use Rattle.queue_log.proofs.Settled.{log_image}
 use Rattle.queue_log.proofs.log.Log.append.Goals as goal
 
@@ -115,3 +118,63 @@ returns-clause-appended g c =
       same_file = (ap (λ v. v.name) view, ap (λ v. v.sequence) view);
       goes_on = c.in_default.is;
     }
+
+pub returns-in_err-ready-clause-any_moment : goal.returns-in_err-ready-clause-any_moment
+returns-in_err-ready-clause-any_moment g c none tells =
+    let m = g.D.Store in
+    let me = c.self.inside in
+    let n = me.name in
+    let old = me.store in
+    let tells' : m.tells old ≡ true = ap (λ v. m.tells v.store) c.self.view_is ∙ tells in
+    let w : IsWhole me.logged.list me.logged.queue (bytes_in (m.file old n)) (m.solid old n) =
+    kept_whole me.halt me.logged.list me.logged.queue (bytes_in (m.file old n)) (m.solid old n) c.in_default.is (c.self.invariant.1 tells') in
+    rw (← c.self.view_is)
+    (begins m.moment m.left_since n old (IsBeforeOrAfter me.logged.list c.args.tx)
+    (λ image left. inl (log_image None me.logged.list me.logged.queue (bytes_in (m.file old n)) image (m.solid old n) w (g.met.D.Store.only_now old n image tells' left))))
+
+-- the log goes on with the transaction that was written
+whole_kept : (halt : Option Halt) (list list' now : List (List Operation)) (queue queue' after next : KeyedAds) (tx : List Operation) (bytes : List ℕ) (solid : ℕ) → halt ≡ None → IsWhole (list ++ tx ∷ []) after bytes solid → queue_after queue tx ≡ Ok after
+    → list' ≡ list → queue' ≡ queue → now ≡ list' ++ tx ∷ [] → queue_after queue' tx ≡ Ok next → KeepsLog halt now next bytes solid
+whole_kept None list list' now queue queue' after next tx bytes solid none w done same_list same_queue listed queued =
+    let both : Ok after ≡ Ok next = sym done ∙ ap (λ q. queue_after q tx) (sym same_queue) ∙ queued in
+    let same : after ≡ next = cc both in
+    subst (λ l. IsWhole l next bytes solid) (sym (listed ∙ ap (λ (l : List (List Operation)). l ++ tx ∷ []) same_list)) (subst (λ q. IsWhole (list ++ tx ∷ []) q bytes solid) same w)
+whole_kept (Some h) list list' now queue queue' after next tx bytes solid none w done same_list same_queue listed queued = absurd (cc none)
+
+abbrev receipt_with : List (List Operation) → RollMark → List Operation → ReceiptValue (List Operation)
+receipt_with list mark tx = record { number = length list; item = tx; mark = mark }
+
+pub invariant_of-self-2 : goal.invariant_of-self-2
+invariant_of-self-2 g c =
+    let m = g.D.Store in
+    let me = c.self.inside in
+    let n = me.name in
+    let n' = c.as_str.result.now in
+    let named : n' ≡ n = c.as_str.ensures in
+    let old = me.store in
+    let new = c.write_tx.new.store in
+    let list = me.logged.list in
+    let queue = me.logged.queue in
+    let tx = c.args.tx in
+    let after = with_changes queue c.in_ok-ready.ready.changes in
+    let done : queue_after queue tx ≡ Ok after = c.in_ok-ready.ensures.ready.done in
+    let kept = c.prepare.ensures in
+    let made = c.commit.ensures in
+    rw (← named) (
+      c.write_tx.ensures.known n' (subst (λ z. m.known old z ≡ true) (sym named) c.self.invariant.0),
+      λ tells.
+          let tells' : m.tells old ≡ true = sym c.write_tx.ensures.told ∙ tells in
+          let w : IsWhole list queue (bytes_in (m.file old n')) (m.solid old n') =
+          subst (λ z. IsWhole list queue (bytes_in (m.file old z)) (m.solid old z)) (sym named)
+          (kept_whole me.halt list queue (bytes_in (m.file old n)) (m.solid old n) c.in_default.is (c.self.invariant.1 tells')) in
+          whole_kept me.halt list c.prepare.new.self.list c.commit.new.self.list queue c.prepare.new.self.queue after c.commit.new.self.queue tx (bytes_in (m.file new n')) (m.solid new n') c.in_default.is
+          (c.in_default-write_tx.ensures.whole tells' list queue after w done) done kept.list kept.queue made.list made.queue,
+    )
+
+pub returns-clause-receipt : goal.returns-clause-receipt
+returns-clause-receipt g c =
+    let tx = c.args.tx in
+    let view = c.self.view_is in
+    c.commit.ensures.receipt
+    ∙ ap (λ l. receipt_with l c.prepare.new.self.mark tx) (c.prepare.ensures.list ∙ ap (λ v. v.list) view)
+    ∙ ap (λ k. receipt_with c.args.self.now.list k tx) (c.prepare.ensures.mark ∙ ap (λ v. v.mark) view)

@@ -1,9 +1,10 @@
-use Rattle.std.proofs.Common.{◌≡◌, ◌∙◌, ◌⊎◌, true, ap, sym, subst}
+use Rattle.std.proofs.Common.{◌≡◌, ◌∙◌, ◌⊎◌, ◌++◌, ◌∷◌, [], Some, None, true, ap, sym, subst}
 use Rattle.pool_outer.specs.Files.{bytes_in, Leaves}
 use Rattle.queue_log.proofs.Moments.{weaker}
 use Rattle.queue_log.specs.Logs.{IsWhole, KeepsLog, StandsForLog}
-use Rattle.queue_log.specs.Reattaching.{IsReattachRefused, IsRereadRefused}
+use Rattle.queue_log.specs.Reattaching.{IsReattachRefused, IsReread, IsRereadRefused}
 use Rattle.queue_log.proofs.Reattached.{found_some, goes_on, image_cut, image_kept, kept_on, refused_by, GoesOn}
+use Rattle.queue_log.proofs.Settled.{log_image}
 use Rattle.queue_log.proofs.log.Log.reattach.Goals as goal
 
 pub returns-in-Err-clause-refused : goal.returns-in-Err-clause-refused
@@ -132,3 +133,77 @@ returns-in-None-clause-any_moment g c tells =
     rw (← c.self.view_is, ← named)
     (weaker m.moment m.left_since n' old new (λ image. Leaves (m.file old) (m.solid old) n' image ⊎ Leaves (m.file new) (m.solid new) n' image) (StandsForLog me.halt list) (c.in-Ok.ensures.any_moment tells')
     (λ image i. image_cut me.halt list queue (bytes_in (m.file old n')) (bytes_in (m.file new n')) image (m.solid old n') (m.solid new n') c.in-Ok.more keeps goes i))
+
+pub returns-in-Some-clause-durable : goal.returns-in-Some-clause-durable
+returns-in-Some-clause-durable g c tells image left =
+    let m = g.D.Store in
+    let me = c.self.inside in
+    let n = me.name in
+    let n' = c.as_str.result.now in
+    let named : n' ≡ n = c.as_str.ensures in
+    let old = me.store in
+    let new = c.reread.new.store in
+    let list = me.logged.list in
+    let queue = me.logged.queue in
+    let tells' : m.tells old ≡ true = ap (λ v. m.tells v.store) c.self.view_is ∙ tells in
+    let keeps : KeepsLog me.halt list queue (bytes_in (m.file old n')) (m.solid old n') =
+    subst (λ z. KeepsLog me.halt list queue (bytes_in (m.file old z)) (m.solid old z)) (sym named) (c.self.invariant.1 tells') in
+    let goes = goes_on me.halt list queue (bytes_in (m.file old n')) (bytes_in (m.file new n')) (m.solid old n') (m.solid new n') c.in-Ok.more keeps (c.in-Ok.ensures.reread tells') in
+    let both : GoesOn me.halt list queue (bytes_in (m.file new n')) (m.solid new n') (Some c.in-Some.more) = subst (GoesOn me.halt list queue (bytes_in (m.file new n')) (m.solid new n')) c.in-Some.is goes in
+    rw (c.take.ensures.list, c.reread.ensures.list)
+    (log_image None (list ++ c.in-Some.more.tx ∷ []) c.in-Some.more.queue (bytes_in (m.file new n')) image (m.solid new n') both.0 (subst (λ z. Leaves (m.file new) (m.solid new) z image) (sym named) left))
+
+pub invariant_of-self : goal.invariant_of-self
+invariant_of-self g c =
+    let m = g.D.Store in
+    let me = c.self.inside in
+    let n = me.name in
+    let n' = c.as_str.result.now in
+    let named : n' ≡ n = c.as_str.ensures in
+    let old = me.store in
+    let new = c.reread.new.store in
+    let list = me.logged.list in
+    let queue = me.logged.queue in
+    let e = c.in-Err.ensures in
+    rw (← named, e.list, e.queue) (
+      e.known n' (subst (λ z. m.known old z ≡ true) (sym named) c.self.invariant.0),
+      λ tells.
+          let tells' : m.tells old ≡ true = sym e.told ∙ tells in
+          let keeps : KeepsLog me.halt list queue (bytes_in (m.file old n')) (m.solid old n') =
+          subst (λ z. KeepsLog me.halt list queue (bytes_in (m.file old z)) (m.solid old z)) (sym named) (c.self.invariant.1 tells') in
+          kept_on me.halt list queue (m.file old n') (m.file new n') (m.solid old n') (m.solid new n') (e.same tells') (e.no_less tells') keeps,
+    )
+
+pub returns-in-None-clause-durable : goal.returns-in-None-clause-durable
+returns-in-None-clause-durable g c tells image left =
+    let m = g.D.Store in
+    let me = c.self.inside in
+    let n = me.name in
+    let n' = c.as_str.result.now in
+    let named : n' ≡ n = c.as_str.ensures in
+    let old = me.store in
+    let new = c.reread.new.store in
+    let list = me.logged.list in
+    let queue = me.logged.queue in
+    let tells' : m.tells old ≡ true = ap (λ v. m.tells v.store) c.self.view_is ∙ tells in
+    let keeps : KeepsLog me.halt list queue (bytes_in (m.file old n')) (m.solid old n') =
+    subst (λ z. KeepsLog me.halt list queue (bytes_in (m.file old z)) (m.solid old z)) (sym named) (c.self.invariant.1 tells') in
+    let goes = goes_on me.halt list queue (bytes_in (m.file old n')) (bytes_in (m.file new n')) (m.solid old n') (m.solid new n') c.in-Ok.more keeps (c.in-Ok.ensures.reread tells') in
+    let whole : IsWhole list queue (bytes_in (m.file new n')) (m.solid new n') = subst (GoesOn me.halt list queue (bytes_in (m.file new n')) (m.solid new n')) c.in-None.is goes in
+    rw c.reread.ensures.list
+    (log_image None list queue (bytes_in (m.file new n')) image (m.solid new n') whole (subst (λ z. Leaves (m.file new) (m.solid new) z image) (sym named) left))
+
+pub returns-in-None-clause-found : goal.returns-in-None-clause-found
+returns-in-None-clause-found g c tells =
+    let m = g.D.Store in
+    let me = c.self.inside in
+    let n = me.name in
+    let n' = c.as_str.result.now in
+    let named : n' ≡ n = c.as_str.ensures in
+    let old = me.store in
+    let new = c.reread.new.store in
+    let list = me.logged.list in
+    let queue = me.logged.queue in
+    let tells' : m.tells old ≡ true = ap (λ v. m.tells v.store) c.self.view_is ∙ tells in
+    let r : IsReread list (bytes_in (m.file old n')) (bytes_in (m.file new n')) (m.solid new n') None = subst (IsReread list (bytes_in (m.file old n')) (bytes_in (m.file new n')) (m.solid new n')) c.in-None.is (c.in-Ok.ensures.reread tells') in
+    rw (← c.self.view_is, ← named) (record { stands = r.stands; pending = tt; cut = r.cut })

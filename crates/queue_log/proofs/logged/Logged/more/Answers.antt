@@ -1,4 +1,4 @@
-use Rattle.std.proofs.Common.{◌≡◌, ◌≤◌, length, Err, refl, ap, sym, subst, arith, rules}
+use Rattle.std.proofs.Common.{◌≡◌, ◌≤◌, ◌<◌, ◌+◌, ℕ, length, Err, refl, ap, sym, subst, arith}
 use Rattle.pool_outer.specs.declared.limit.Which.TheVariants as which
 use Rattle.queue_tx.specs.Queues.{QueueOf}
 use Rattle.queue_log.specs.declared.error.LogError.TheVariants.{Limit, Memory}
@@ -15,6 +15,9 @@ returns-in-Err-clause-refused c =
     (λ full _. (refl, (let far = c.in-Err.ensures.full.0 (ap Err full) in omega arith)))
     (λ other. absurd (other refl)))
 
+not_full : (count same : ℕ) → count ≡ same → (MAX_ITEMS < count + 1 → ⊥) → same < MAX_ITEMS
+not_full count same is room = omega arith
+
 pub returns-clause-next : goal.returns-clause-next
 returns-clause-next c =
     let now = c.args.self.now in
@@ -22,7 +25,7 @@ returns-clause-next c =
     record {
       logged = c.requires;
       applies = last_applies now.list c.args.tx now.queue c.args.queue builds c.requires.builds;
-      copied = search rules;
-      room = search rules;
-      within = search rules;
+      copied = c.in_ok-copy.ensures;
+      room = c.in_default.ensures.room;
+      within = not_full (length c.self.inside.roll.list) (length now.list) (ap (λ v. length v.list) c.self.view_is) (λ far. (let clash = c.in_default.ensures.full.1 far in cc clash));
     }
