@@ -1,3 +1,4 @@
+pub mod Begun
 pub mod JobMacros
 pub mod Kept
 pub mod MadeJobs

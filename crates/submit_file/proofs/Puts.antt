@@ -26,6 +26,11 @@ put_at x v n (s0 ∷ ss) s l g = by (same_name s0.name x) (put_at x v n ss s) l 
 pub put_there : (x v : List ℕ) (n : ℕ) (ss : List Setting) (s : Setting) (i : ℕ) → i ≡ pos x ss → i < length ss → s ≡ get_or ss i s → slice_set ss i (with_value v n s) ≡ with_setting x v n ss
 put_there x v n ss s i e l g = subst (λ i. i < length ss → s ≡ get_or ss i s → slice_set ss i (with_value v n s) ≡ with_setting x v n ss) (sym e) (put_at x v n ss s) l g
 
+-- the same of a value that was copied
+pub put_copied : (x v w : List ℕ) (n i : ℕ) (ss items : List Setting) (s : Setting) → items ≡ ss → w ≡ v → i ≡ pos x ss → i < length items → s ≡ get_or items i s → slice_set items i (with_value w n s) ≡ with_setting x v n ss
+put_copied x v w n i ss items s same valued e l g =
+    (λ k. slice_set (same k) i (with_value (valued k) n s)) ∙ put_there x v n ss s i e (subst (λ items. i < length items) same l) (subst (λ items. s ≡ get_or items i s) same g)
+
 add_at : (x v : List ℕ) (n : ℕ) (ss : List Setting) → length ss ≤ pos x ss → ss ++ record { name = x; value = v; line = n } ∷ [] ≡ with_setting x v n ss
 add_at x v n [] l = refl
 add_at x v n (s0 ∷ ss) l = by (same_name s0.name x) (add_at x v n ss) l

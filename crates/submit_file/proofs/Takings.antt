@@ -86,9 +86,19 @@ if_ok : {X E : Type 0} {P Q : X → Type 0} (r : Result X E) → ((x : X) → P 
 if_ok (Ok x) f p = f x p
 if_ok (Err e) f p = tt
 
+-- an effect that is given, where it is that of what comes back
+gives_as : (s : Statement) (t : Macros) (o : Origin) (e : Effect) (r : Result Contribution Memory) → GivesFor s t o e → IfOk r (λ c. effect_of c ≡ e) → IfOk r (λ c. GivesFor s t o (effect_of c))
+gives_as s t o e r given = if_ok r (λ c is. subst (GivesFor s t o) (sym is) given)
+
+given_set : (s : Statement) (t : Macros) (o : Origin) (g : Setting) (x : List ℕ) → setting_for s.file.now o ≡ Some g → Replaced t g.value g.line (Ok x) → GivesFor s t o (named_value (name_for o x) (place_of g s.line) (value_for o x))
+given_set s t o g x set rep = is_set {s = g} {r = Ok x} set rep
+
+same_named : (x y : List ℕ) (p q : Place) (v : Result (Option Tree) ValueError) → x ≡ y → p ≡ q → named_value x p v ≡ named_value y q v
+same_named x y p q v named placed = (λ i. named_value (named i) (placed i) v)
+
 pub set_gives : (s : Statement) (t : Macros) (o : Origin) (g : Setting) (x nm : List ℕ) (p : Place) (r : Result Contribution Memory) → setting_for s.file.now o ≡ Some g → Replaced t g.value g.line (Ok x) → nm ≡ name_for o x → p ≡ place_of g s.line → IfOk r (λ c. effect_of c ≡ named_value nm p (value_for o x)) → IfOk r (λ c. GivesFor s t o (effect_of c))
 set_gives s t o g x nm p r set rep named place =
-    if_ok r (λ c is. subst (GivesFor s t o) (sym (is ∙ (λ i. named_value (named i) (place i) (value_for o x)))) (is_set set rep))
+    gives_as s t o (named_value nm p (value_for o x)) r (subst (GivesFor s t o) (sym (same_named nm (name_for o x) p (place_of g s.line) (value_for o x) named place)) (given_set s t o g x set rep))
 
 pub unset_gives : (s : Statement) (t : Macros) (o : Origin) (nm : List ℕ) (r : Result Contribution Memory) → setting_for s.file.now o ≡ None → nm ≡ name_for o [] → IfOk r (λ c. effect_of c ≡ named_value nm (record { line = s.line; statement = s.line }) (preset_for s.heading.owner.now o)) → IfOk r (λ c. GivesFor s t o (effect_of c))
 unset_gives s t o nm r none named =

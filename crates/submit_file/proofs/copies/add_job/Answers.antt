@@ -1,3 +1,5 @@
+use Rattle.std.proofs.Common.{◌∙◌, length, ap}
+use Rattle.std.proofs.lemmas.List.{length_push}
 use Rattle.std.specs.Prelude.{decimal}
 use Rattle.submit_file.specs.OneJob.{common}
 use Rattle.submit_file.specs.JobMacros.{item_of}
@@ -35,3 +37,6 @@ returns-in-Err-clause-made c =
     let file = s.file.now.table in
     job_err (common s.heading) s.file.now s.line i c.args.ads.now c.args.ads.now c.in-Err.error c.set_job.new.table c.len-proc.result c.len-proc.ensures
     (job_set (decimal c.len-proc.result) i file c.args.table.now c.set_job.new.table c.requires.table c.in_ok-set_job.ensures) c.in-Err.ensures
+
+pub returns-in_ok-push-in-Ok-clause-count : goal.returns-in_ok-push-in-Ok-clause-count
+returns-in_ok-push-in-Ok-clause-count c = ap length c.in_ok-push-in-Ok.ensures.ok ∙ length_push c.args.ads.now c.in-Ok.ad

@@ -3,6 +3,9 @@ use Rattle.submit_file.specs.Origins.{origin_of, preset_for}
 use Rattle.submit_file.proofs.Takings.{unset_gives}
 use Rattle.submit_file.proofs.statement.Statement.contribution.Goals as goal
 
+pub returns-in-Some : goal.returns-in-Some
+returns-in-Some c = c.setting_contribution.ensures (sym c.setting.ensures ∙ ap (option_map (λ s. s.now)) c.in-Some.is)
+
 pub returns-in-None : goal.returns-in-None
 returns-in-None c =
     let o = origin_of c.args.source in
