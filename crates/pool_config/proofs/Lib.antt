@@ -3,6 +3,7 @@ pub mod EachSlots
 pub mod Expressions
 pub mod Kept
 pub mod Limits
+pub mod Literals
 pub mod Machines
 pub mod OneOutcome
 pub mod Own

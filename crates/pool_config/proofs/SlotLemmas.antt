@@ -1,17 +1,22 @@
 -- One slot more, and the slots of one machine more.
-use Rattle.std.proofs.Common.{◌≡◌, ◌<◌, ◌≤◌, ◌+◌, ◌^◌, ℕ, zero, suc, Bool, true, false, true≢false, Bor, List, [], ◌∷◌, ◌++◌, length, map, get_or, drop, All, refl, ap, sym, ◌∙◌, subst, arith, add-one, append-nil, append_assoc, length-append}
+use Rattle.std.proofs.Common.{◌≡◌, ◌<◌, ◌≤◌, ◌+◌, ◌^◌, ℕ, zero, suc, Bool, true, false, true≢false, Bor, List, [], ◌∷◌, ◌++◌, length, map, get_or, drop, All, refl, ap, sym, ◌∙◌, subst, arith, add-one, codes, append-nil, append_assoc, length-append}
 use Rattle.std.specs.List.{slice_get}
 use Rattle.std.proofs.Math.Seq.{drop-cons}
 use Rattle.std.proofs.lemmas.List.{drop_all}
 use Rattle.std.proofs.lemmas.List.Elements.{All-from_recursion}
+use Rattle.ad_value.specs.declared.names.matching.TheConstants.{RANK, REQUIREMENTS}
+use Rattle.ad_value.specs.declared.names.slot.TheConstants.{ARCH, CPUS, DISK, MACHINE, MEMORY, MY_TYPE, NAME, OP_SYS, SLOT_ID, START}
+use Rattle.ad_rows.specs.Rows.{integer_literal, text_literal}
 use Rattle.ad_rows.specs.declared.rows.Given.{Given}
 use Rattle.ad_rows.specs.declared.rows.Given.TheVariants as given
 use Rattle.ad_tree.specs.Ad.{Attributes}
+use Rattle.ad_tree.specs.Tree.{reference}
+use Rattle.ad_tree.specs.declared.operator.Scope.TheVariants.{Bare}
 use Rattle.ad_tree.specs.declared.tree.Expr.{Expr}
 use Rattle.pool_config.specs.declared.config.Machine.{Machine}
 use Rattle.pool_config.specs.Configuration.{Configuration, ConfiguredMachine, machine_of, total_slots}
 use Rattle.pool_config.specs.declared.slots.ConfiguredSlot.{ConfiguredSlot}
-use Rattle.pool_config.specs.Slots.{and_attribute, with_attributes, configured_slot, configured_slots, slots_upto, slots_from}
+use Rattle.pool_config.specs.Slots.{slot_name, pool_attributes, and_attribute, with_attributes, configured_slot, configured_slots, slots_upto, slots_from}
 
 pub upto_none : (slots : List ConfiguredSlot) (place : ℕ) (m : ConfiguredMachine) → slots ≡ slots ++ slots_upto place m 0
 unfolding slots_upto
@@ -110,3 +115,16 @@ pub small_rows : (a1 a2 a3 a4 a5 a6 a7 a8 a9 a10 a11 a12 : Bor (List ℕ)) (g1 g
 small_rows a1 a2 a3 a4 a5 a6 a7 a8 a9 a10 a11 a12 g1 g2 g3 g5 g6 g11 g4 g7 g8 g9 g10 g12 s4 s7 s8 s9 =
     All-from_recursion IsSmall ((a1, given.Text g1) ∷ (a2, given.Text g2) ∷ (a3, given.Text g3) ∷ (a4, given.Integer g4) ∷ (a5, given.Text g5) ∷ (a6, given.Text g6) ∷ (a7, given.Integer g7) ∷ (a8, given.Integer g8) ∷ (a9, given.Integer g9) ∷ (a10, given.Expression g10) ∷ (a11, given.Name g11) ∷ (a12, given.Expression g12) ∷ [])
     (text_row g1, (text_row g2, (text_row g3, (integer_row g4 s4, (text_row g5, (text_row g6, (integer_row g7 s7, (integer_row g8 s8, (integer_row g9 s9, (expression_row g10, (name_row g11, (expression_row g12, tt))))))))))))
+
+-- a number of 16 or of 32 bits is small
+pub given_short : (k n : ℕ) → k ≡ n → n < 2 ^ 16 → k < 2 ^ 63
+given_short k n is small = omega (arith, is, small)
+
+pub given_word : (k n : ℕ) → k ≡ n → n < 2 ^ 32 → k < 2 ^ 63
+given_word k n is small = omega (arith, is, small)
+
+-- the attributes that these rows make
+pub attributes_are : (m : ConfiguredMachine) (k : ℕ) (name machine : List ℕ) (n cpus memory disk : ℕ) → name ≡ slot_name m.name k → machine ≡ m.name → n ≡ k → cpus ≡ m.cpus → memory ≡ m.memory → disk ≡ m.disk →
+    (MY_TYPE.now, text_literal (codes "Machine")) ∷ (NAME.now, text_literal name) ∷ (MACHINE.now, text_literal machine) ∷ (SLOT_ID.now, integer_literal n) ∷ (OP_SYS.now, text_literal (codes "LINUX")) ∷ (ARCH.now, text_literal (codes "X86_64")) ∷ (CPUS.now, integer_literal cpus) ∷ (MEMORY.now, integer_literal memory) ∷ (DISK.now, integer_literal disk) ∷ (START.now, m.start) ∷ (REQUIREMENTS.now, reference Bare START.now) ∷ (RANK.now, m.rank) ∷ [] ≡ pool_attributes m k
+attributes_are m k name machine n cpus memory disk p q r s t u =
+    λ i. (MY_TYPE.now, text_literal (codes "Machine")) ∷ (NAME.now, text_literal (p i)) ∷ (MACHINE.now, text_literal (q i)) ∷ (SLOT_ID.now, integer_literal (r i)) ∷ (OP_SYS.now, text_literal (codes "LINUX")) ∷ (ARCH.now, text_literal (codes "X86_64")) ∷ (CPUS.now, integer_literal (s i)) ∷ (MEMORY.now, integer_literal (t i)) ∷ (DISK.now, integer_literal (u i)) ∷ (START.now, m.start) ∷ (REQUIREMENTS.now, reference Bare START.now) ∷ (RANK.now, m.rank) ∷ []

@@ -187,10 +187,7 @@ impl Settings {
             so_far self.new ≡ record { config = whole (so_far self.old); last = None }) }
     {
         match self.last.take() {
-            Some(machine) => {
-                self.config.machines.push(machine)?;
-                Ok(())
-            }
+            Some(machine) => self.config.machines.push(machine),
             None => Ok(()),
         }
     }

@@ -60,7 +60,6 @@ pub fn configured_slots(alloc: Global, config: &Config) -> Result<ConfiguredSlot
 }
 
 // The slots of machines.
-#[tactic(auto, using(crate::proofs::Machines::as_many))]
 fn slots_of(alloc: Global, machines: &[Machine]) -> Result<ConfiguredSlotList, Memory>
     requires few { length (map machine_of machines.now) ≤ MAX_MACHINES }
     requires slots { total_slots (map machine_of machines.now) ≤ MAX_SLOTS }

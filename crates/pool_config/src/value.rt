@@ -57,7 +57,6 @@ pub(crate) fn small_within(least: u64, most: u64, text: &str) -> Option<u32>
 
 /// The expression that a text says, if it says one. Computes in O(bytes of the text and of its
 /// canonical text).
-#[tactic(auto, using(crate::proofs::Expressions::said_some, crate::proofs::Expressions::unsaid))]
 pub(crate) fn expression_in(alloc: Global, text: &str) -> Result<Option<Expr>, Memory>
     ensures { IfOk result (λ e. option_map tree e ≡ expression_in text.now) }
 {

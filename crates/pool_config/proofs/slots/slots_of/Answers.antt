@@ -3,6 +3,7 @@ use Rattle.pool_config.specs.declared.config.TheConstants.{MAX_SLOTS}
 use Rattle.pool_config.specs.Configuration.{machine_of, HasRoom}
 use Rattle.pool_config.specs.Slots.{slots_from}
 use Rattle.pool_config.proofs.Limits.{room_at, slots_at}
+use Rattle.pool_config.proofs.Machines.{next_is_small}
 use Rattle.pool_config.proofs.SlotLemmas.{slots_more, slots_end}
 use Rattle.pool_config.proofs.slots.slots_of.Goals as goal
 
@@ -28,3 +29,6 @@ pub returns : goal.returns
 returns c =
     let end : length c.args.machines.now ≤ c.loop-machine.machine-index = search rules in
     slots_end c.args.machines.now c.loop-machine.machine-index c.loop-machine.slots (slots_from 0 (map machine_of c.args.machines.now)) end c.loop-machine.invariant.slots
+
+pub overflow_add-place : goal.overflow_add-place
+overflow_add-place c = record { fits = next_is_small c.args.machines.now c.loop-machine.machine-index c.loop-machine.place c.requires.few c.loop-machine-test.true c.loop-machine.invariant.place }
