@@ -1,5 +1,9 @@
 // What a pool offers, and what it asks for.
 
+ghost use Rattle.std.specs.Prelude.{◌≡◌, ◌++◌, OnOk, string_bytes};
+ghost use Rattle.daemon_fields.specs.ListTexts.{behind_tabs};
+ghost use Rattle.claim_id.specs.Texts.{job_text};
+
 use crate::refusals::write_slot;
 use cases::escape;
 use daemon_texts::write_job;
@@ -21,7 +25,10 @@ pub fn write_look(look: &Look, out: &mut String) -> Result<(), AllocError> {
 }
 
 /// Appends the jobs of requests, each behind a tab. Computes in O(requests).
-pub fn write_requests(requests: &[Request], out: &mut String) -> Result<(), AllocError> {
+pub fn write_requests(requests: &[Request], out: &mut String) -> Result<(), AllocError>
+    ensures { OnOk result (string_bytes out.new
+        ≡ string_bytes out.old ++ behind_tabs (λ r. job_text r.job) requests.now) }
+{
     for request in requests {
         out.push('\t')?;
         write_job(request.job, out)?;

@@ -1,5 +1,8 @@
 // Refusals, and what is left to do in a pool that is to be closed.
 
+ghost use Rattle.std.specs.Prelude.{◌≡◌, ◌++◌, OnOk, string_bytes};
+ghost use Rattle.pool_answers.specs.RefusalTexts.{daemon_refusal, daemon_text, refusal_text, slot_field, some_number, unquiet_text};
+
 use claim_id::SlotId;
 use daemon_texts::{write_job, write_run};
 use pool_outer::Daemon;
@@ -8,7 +11,9 @@ use std::alloc::AllocError;
 use std::fmt::Write;
 
 // `schedd`, `startd:M` or `matchmaker`.
-fn write_daemon(who: Daemon, out: &mut String) -> Result<(), AllocError> {
+fn write_daemon(who: Daemon, out: &mut String) -> Result<(), AllocError>
+    ensures { OnOk result (string_bytes out.new ≡ string_bytes out.old ++ daemon_text who) }
+{
     match who {
         Daemon::Schedd => out.push_str("schedd"),
         Daemon::Startd(machine) => write!(out, "startd:{machine}"),
@@ -17,13 +22,18 @@ fn write_daemon(who: Daemon, out: &mut String) -> Result<(), AllocError> {
 }
 
 /// Appends a slot: `M:S`.
-pub(crate) fn write_slot(id: SlotId, out: &mut String) -> Result<(), AllocError> {
+pub(crate) fn write_slot(id: SlotId, out: &mut String) -> Result<(), AllocError>
+    ensures { OnOk result (string_bytes out.new ≡ string_bytes out.old ++ slot_field id) }
+{
     let SlotId { machine, slot } = id;
     write!(out, "{machine}:{slot}")
 }
 
 /// Appends a refusal: its variant, and its values in the order of its fields.
-pub fn write_refusal(error: StepError, out: &mut String) -> Result<(), AllocError> {
+#[tactic(auto, unfolding(crate::specs::RefusalTexts::refusal_text))]
+pub fn write_refusal(error: StepError, out: &mut String) -> Result<(), AllocError>
+    ensures { OnOk result (string_bytes out.new ≡ string_bytes out.old ++ refusal_text error) }
+{
     match error {
         StepError::Closed => out.push_str("Closed"),
         StepError::Events => out.push_str("Events"),
@@ -49,12 +59,19 @@ pub fn write_refusal(error: StepError, out: &mut String) -> Result<(), AllocErro
     }
 }
 
-fn write_daemon_refusal(name: &str, who: Daemon, out: &mut String) -> Result<(), AllocError> {
+#[tactic(auto, unfolding(crate::specs::RefusalTexts::daemon_refusal))]
+fn write_daemon_refusal(name: &str, who: Daemon, out: &mut String) -> Result<(), AllocError>
+    ensures { OnOk result (string_bytes out.new
+        ≡ string_bytes out.old ++ daemon_refusal name.now who) }
+{
     write!(out, "{name}\t")?;
     write_daemon(who, out)
 }
 
-fn write_number_refusal(error: StepError, out: &mut String) -> Result<(), AllocError> {
+#[tactic(auto, unfolding(crate::specs::RefusalTexts::refusal_text))]
+fn write_number_refusal(error: StepError, out: &mut String) -> Result<(), AllocError>
+    ensures { OnOk result (string_bytes out.new ≡ string_bytes out.old ++ refusal_text error) }
+{
     match error {
         StepError::OldBoot { asked, current } => write!(out, "OldBoot\t{asked}\t{current}"),
         StepError::NoMail { index, sent } => write!(out, "NoMail\t{index}\t{sent}"),
@@ -64,21 +81,30 @@ fn write_number_refusal(error: StepError, out: &mut String) -> Result<(), AllocE
         }
         StepError::Again { index } => write!(out, "Again\t{index}"),
         StepError::StillPending { number } => write!(out, "StillPending\t{number}"),
-        StepError::NotPending {
-            asked,
-            current: Some(current),
-        } => write!(out, "NotPending\t{asked}\t{current}"),
-        StepError::NotPending {
-            asked,
-            current: None,
-        } => write!(out, "NotPending\t{asked}\t-"),
+        StepError::NotPending { asked, current } => {
+            write!(out, "NotPending\t{asked}\t")?;
+            write_some_number(current, out)
+        }
         StepError::OtherItem { number } => write!(out, "OtherItem\t{number}"),
         StepError::Moved { asked, length } => write!(out, "Moved\t{asked}\t{length}"),
         _ => Err(AllocError),
     }
 }
 
-fn write_unquiet(what: Unquiet, out: &mut String) -> Result<(), AllocError> {
+// A number, or `-`.
+fn write_some_number(number: Option<u64>, out: &mut String) -> Result<(), AllocError>
+    ensures { OnOk result (string_bytes out.new ≡ string_bytes out.old ++ some_number number) }
+{
+    match number {
+        Some(number) => write!(out, "{number}"),
+        None => out.push('-'),
+    }
+}
+
+#[tactic(auto, unfolding(crate::specs::RefusalTexts::unquiet_text))]
+fn write_unquiet(what: Unquiet, out: &mut String) -> Result<(), AllocError>
+    ensures { OnOk result (string_bytes out.new ≡ string_bytes out.old ++ unquiet_text what) }
+{
     match what {
         Unquiet::Down(who) => write_daemon_refusal("NotQuiet\tDown", who, out),
         Unquiet::Claim(slot) => {
