@@ -1,5 +1,5 @@
 -- Lists in which nothing comes twice, and the jobs of a queue as such a list.
-use Rattle.std.proofs.Common.{◌≡◌, ◌⊎◌, inl, inr, ℕ, suc, ◌≤◌, Bool, true, false, cond, List, [], ◌∷◌, ◌++◌, length, Option, Some, None, is_some, IsSomeAnd, refl, sym, ◌∙◌, ap, subst, arith}
+use Rattle.std.proofs.Common.{◌≡◌, ◌⊎◌, inl, inr, ℕ, suc, ◌≤◌, Bool, true, false, cond, List, [], ◌∷◌, ◌++◌, length, Option, Some, None, is_some, IsSomeAnd, refl, sym, ◌∙◌, ap, subst, arith, true≢false}
 use Rattle.std.specs.Prelude.{IsSome}
 use Rattle.std.specs.Cmp.{tied_itself}
 use Rattle.std.specs.List.Sorted.{IsStrictlySortedBy}
@@ -134,13 +134,13 @@ module _ (kind : JobKind) (q : KeyedAds) where
   of_list last (j ∷ js) are job (inr there) = let r = of_list (Some j) js are.1 job there in (r.0, past_both last j (Proc job) are.0.later r.1)
 
   in_list : (last : Option JobId) (jobs : List JobId) → AreJobs kind q last jobs → (job : JobId) → IsJobOf kind q (Proc job) → is_past_job last (Proc job) ≡ true → IsIn job jobs
-  in_list last [] none job is past = let clash : false ≡ true = sym (none (Proc job) is) ∙ past in cc
+  in_list last [] none job is past = absurd (true≢false (sym past ∙ none (Proc job) is))
   in_list last (j ∷ js) are job is past = by (key_cmp (Proc j) (Proc job)) refl (are.0.first (Proc job) is past) (λ later. in_list (Some j) js are.1 job is later)
     where
       by : (r : Ordering) → key_cmp (Proc j) (Proc job) ≡ r → is_gt r ≡ false → (is_past_job (Some j) (Proc job) ≡ true → IsIn job js) → IsIn job (j ∷ js)
       by Less e h rest = inr (rest (ap is_lt e))
       by Equal e h rest = inl (sym (of_proc j job (exact_keys (Proc j) (Proc job) e)))
-      by Greater e h rest = cc
+      by Greater e h rest = absurd (true≢false h)
 
   list_apart : (last : Option JobId) (jobs : List JobId) → AreJobs kind q last jobs → AreApart jobs
   list_apart last [] none = tt

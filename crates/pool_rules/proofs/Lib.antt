@@ -1,3 +1,4 @@
+pub mod AskedAds
 pub mod Bringing
 pub mod Completing
 pub mod Counting
@@ -13,6 +14,7 @@ pub mod HistorySteps
 pub mod HistoryTraces
 pub mod JobCounts
 pub mod JobLists
+pub mod Judged
 pub mod Kept
 pub mod Launching
 pub mod LinkedLogged

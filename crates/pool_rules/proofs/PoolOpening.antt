@@ -239,14 +239,14 @@ same_keys a b e = ap job_in e
 
 -- each job of the kind that is later is in the list
 pub kind_listed : (k : JobKind) (q : KeyedAds) (last : Option JobId) (jobs : List JobId) → AreJobs k q last jobs → (job : JobId) → IsJobOf k q (Proc job) → is_past_job last (Proc job) ≡ true → IsIn job jobs
-kind_listed k q last [] are job is later = let clash : true ≡ false = sym later ∙ are (Proc job) is in cc
+kind_listed k q last [] are job is later = absurd (true≢false (sym later ∙ are (Proc job) is))
 kind_listed k q last (x ∷ xs) are job is later =
     by (key_cmp (Proc x) (Proc job)) refl (are.0.first (Proc job) is later) (λ after. kind_listed k q (Some x) xs are.1 job is after)
   where
     by : (r : Ordering) → key_cmp (Proc x) (Proc job) ≡ r → is_gt r ≡ false → (is_lt (key_cmp (Proc x) (Proc job)) ≡ true → IsIn job xs) → (job ≡ x) ⊎ IsIn job xs
     by Less e before rest = inr (rest (ap is_lt e))
     by Equal e before rest = inl (sym (same_keys x job (exact_keys (Proc x) (Proc job) e)))
-    by Greater e before rest = cc
+    by Greater e before rest = absurd (true≢false before)
 
 -- each job of the list is of the kind
 pub listed_kind : (k : JobKind) (q : KeyedAds) (last : Option JobId) (jobs : List JobId) → AreJobs k q last jobs → (job : JobId) → IsIn job jobs → IsJobOf k q (Proc job)
