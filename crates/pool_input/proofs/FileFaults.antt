@@ -19,6 +19,7 @@ use Rattle.pool_input.specs.declared.fault.Fault.TheVariants as fault
 use Rattle.pool_input.specs.declared.files.ReadError.{ReadError}
 use Rattle.pool_input.specs.declared.files.ReadError.TheVariants as read
 use Rattle.pool_input.specs.declared.files.TheConstants.{MOST_BYTES}
+use Rattle.pool_input.specs.declared.status.Kind.{Kind}
 use Rattle.pool_input.specs.declared.status.Kind.TheVariants as kind
 use Rattle.pool_input.specs.declared.status.Status.TheVariants as status
 use Rattle.pool_input.specs.Faults.{read_fault, config_fault, submit_fault, UnlessOut, IsFileFault}
@@ -122,6 +123,10 @@ unread file read.TooLong missing large = let l = large refl in too_large file l.
 unread file read.Failed missing large = tt
 unread file read.Memory missing large = tt
 
+-- a file's text is its bytes
+pub text_read : (file : Option (List ℕ)) (bytes text : List ℕ) → file ≡ Some bytes → length bytes ≤ MOST_BYTES → (text ≡ bytes) × IsUtf8 bytes → IsTextOf file text
+text_read file bytes text there short is = rw is.0 (record { there = there; short = short; utf8 = is.1 })
+
 pub no_utf8 : (file : Option (List ℕ)) (bytes : List ℕ) → file ≡ Some bytes → length bytes ≤ MOST_BYTES → ¬ IsUtf8 bytes → HasNoText file (fault.Refused 0 kind.NotText)
 no_utf8 file bytes there short bad = rw there (inr (short, bad, refl))
 
@@ -130,6 +135,9 @@ disk_read read.Missing is = cc
 disk_read read.TooLong is = cc
 disk_read read.Failed is = refl
 disk_read read.Memory is = cc
+
+pub no_disk_line : (n : ℕ) (k : Kind) → fault.Refused n k ≡ fault.Disk → ⊥
+no_disk_line n k is = cc
 
 pub no_disk_config : (e : ConfigError) → config_fault e ≡ fault.Disk → ⊥
 no_disk_config (config.BadLine n) is = cc

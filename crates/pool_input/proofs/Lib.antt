@@ -1,3 +1,4 @@
+pub mod Building
 pub mod FileByFile
 pub mod FileFaults
 pub mod Found
@@ -5,6 +6,8 @@ pub mod Loading
 pub mod OneFile
 pub mod OneStatus
 pub mod Pieces
+pub mod Plain
 pub mod Reading
 pub mod Slots
+pub mod Stores
 pub mod WordsReading

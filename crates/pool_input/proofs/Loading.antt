@@ -1,6 +1,7 @@
 -- The input of a run, of its configuration and its submit files.
-use Rattle.std.proofs.Common.{◌≡◌, ◌∙◌, inl, inr, ℕ, List, Option, None, Result, Ok, Err, IfOk, IfErr, refl, sym, ap, subst}
+use Rattle.std.proofs.Common.{◌≡◌, ◌∙◌, ◌≤◌, inl, inr, ℕ, List, Option, None, Result, Ok, Err, IfOk, IfErr, refl, sym, ap, subst, arith}
 use Rattle.ad_tree.specs.Ad.{Attributes}
+use Rattle.pool_outer.specs.Cause.{Rose}
 use Rattle.pool_outer.specs.Files.{Contents}
 use Rattle.pool_config.specs.Configuration.{Configuration}
 use Rattle.thin_pool.specs.CourseValue.{CourseValue}
@@ -56,6 +57,14 @@ config_stops allows file config submits fault.Disk s refused (inl is) = rw is tt
 config_stops allows file config submits fault.Disk s refused (inr is) = rw is tt
 config_stops allows file config submits fault.Memory s refused (inl is) = rw is tt
 config_stops allows file config submits fault.Memory s refused (inr is) = rw is tt
+
+-- a fault of the disk has come since a call that came before
+pub disk_since : (r : Result CourseValue Status) (before then now : ℕ) → before ≤ then → IfErr r (λ s. s ≡ status.DiskFault → Rose then now) → IfErr r (λ s. s ≡ status.DiskFault → Rose before now)
+disk_since (Ok c) before then now later rose = tt
+disk_since (Err s) before then now later rose = λ disk. let since = rose disk in omega arith
+
+pub no_disk_memory : status.Memory ≡ status.DiskFault → ⊥
+no_disk_memory is = cc
 
 -- a pool that was opened, and to which only submissions have happened since
 pub submitted_of : (allows : ℕ → Type 0) (slots : List PoolSlot) (old new : CourseValue) → old.opening ≡ opening_pool slots → old.pool ≡ old.opening → ArePlaced old.opening.slots 64 → new.opening ≡ old.opening → new.pool.slots ≡ old.pool.slots → new.list ≡ submit_steps (submissions_in new.list) → AreRead allows new.list → IsResting new.pool → HasSubmitted allows new

@@ -29,12 +29,24 @@ read_more file other now piece before new len n same at read room front more =
     let here : ReadAt file (length now) n before piece = subst (λ f. ReadAt f (length now) n before piece) same (subst (λ k. ReadAt other k n before piece) at read) in
     rw more (front_more (bytes_in file) now piece n front here.front here.fits room)
 
+-- all of the bytes that were asked for are there
+pub taken_whole : (piece into : List ℕ) (n : ℕ) → n ≤ length piece → length into ≡ length piece → n ≡ length (take n into)
+taken_whole piece into n room long = omega (arith, length-take n into)
+
+-- a read that gives bytes comes nearer to the end
+pub comes_nearer : (size old new so_far n taken : ℕ) → so_far ≡ old → so_far < size → (n ≡ 0 → ⊥) → n ≡ taken → new ≡ old + taken → size - new < size - old
+comes_nearer size old new so_far n taken is below some all more = omega arith
+
 -- the bytes so far are no more than the file has
 pub no_more : (file : Option (List ℕ)) (bytes : List ℕ) (size : ℕ) → option_map length file ≡ Some size → bytes ≡ take (length bytes) (bytes_in file) → length bytes ≤ size
 no_more None bytes size is front = cc
 no_more (Some file) bytes size is front =
     let len : length file ≡ size = cc in
     omega (arith, ap length front, length-take (length bytes) file)
+
+-- what is left of the bytes is no longer than was asked for
+pub cut_short : (bytes new : List ℕ) (size most : ℕ) → new ≡ take size bytes → size ≤ most → length new ≤ most
+cut_short bytes new size most is few = omega (arith, ap length is, length-take size bytes)
 
 -- the values of one element more
 pub mapped_more : {A B : Type 0} (f : A → B) (xs : List A) (i : ℕ) (x : A) (y : B) (before after : List B) → i < length xs → x ≡ get_or xs i x → before ≡ map f (take i xs) → y ≡ f x → after ≡ before ++ y ∷ [] → after ≡ map f (take (i + 1) xs)

@@ -1,4 +1,4 @@
-use Rattle.std.proofs.Common.{◌≡◌, ◌∙◌, ◌∷◌, Bool, true, false, true≢false, codes, sym, ap, rules}
+use Rattle.std.proofs.Common.{◌≡◌, ◌∙◌, ◌∷◌, true≢false, codes, sym, ap, rules}
 use Rattle.pool_input.specs.Words.{IsRun, texts}
 use Rattle.pool_input.proofs.form.is_run.Goals as goal
 use Rattle.pool_input.proofs.form.is_run.Goals.{then-eq, else-eq}

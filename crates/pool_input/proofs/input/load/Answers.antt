@@ -2,9 +2,10 @@ use Rattle.std.proofs.Common.{◌∙◌, Err}
 use Rattle.pool_config.specs.Configuration.{configuration_of}
 use Rattle.pool_input.specs.Readings.{IsAnyReading}
 use Rattle.pool_input.specs.Words.{file_names}
-use Rattle.pool_input.proofs.Loading.{config_stops, submit_stops, input_of}
+use Rattle.pool_input.proofs.Loading.{config_stops, submit_stops, input_of, disk_since}
 use Rattle.pool_input.proofs.OneStatus.{refusal_comes}
 use Rattle.pool_input.proofs.FileByFile.{disk_of}
+use Rattle.pool_input.proofs.Stores.{same_twice}
 use Rattle.pool_input.proofs.input.load.Goals as goal
 
 pub returns-in-Ok-clause-ok : goal.returns-in-Ok-clause-ok
@@ -27,3 +28,12 @@ returns-in-Err-clause-refused_comes g c = λ told. refusal_comes (g.C.Clock.allo
 
 pub returns-in-Err-clause-disk_fault : goal.returns-in-Err-clause-disk_fault
 returns-in-Err-clause-disk_fault g c = λ disk. c.in-Err.ensures.disk_fault (disk_of c.args.named.now.config.now c.in-Err.fault c.fault_status.result c.fault_status.ensures.status disk)
+
+pub returns-in-Ok-clause-disk_fault : goal.returns-in-Ok-clause-disk_fault
+returns-in-Ok-clause-disk_fault g c = disk_since c.load_submits.result _ _ _ c.in-Ok.ensures.later c.load_submits.ensures.disk_fault
+
+pub load_submits-requires-clause-within : goal.load_submits-requires-clause-within
+load_submits-requires-clause-within g c = c.in-Ok.ensures.within
+
+pub returns-in-Ok-clause-same : goal.returns-in-Ok-clause-same
+returns-in-Ok-clause-same g c = λ told. same_twice g.D.Store.file g.D.Store.solid c.args.store.now c.load_config.new.store _ (c.in-Ok.ensures.same told) (c.load_submits.ensures.same (c.in-Ok.ensures.told ∙ told))

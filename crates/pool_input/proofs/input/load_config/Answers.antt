@@ -14,3 +14,16 @@ returns-in-Ok-clause-disk_fault g c = λ disk. absurd (no_disk_config c.in-Err-r
 
 pub returns-clause-refused : goal.returns-clause-refused
 returns-clause-refused g c = λ told. no_text_config (g.D.Store.file c.args.store.now c.args.name.now) c.in-Err.fault (c.in-Err.ensures.refused told)
+
+pub returns-in-Ok-read-clause-ok : goal.returns-in-Ok-read-clause-ok
+returns-in-Ok-read-clause-ok g c = λ told. record {
+  text = c.as_str.result.now;
+  text_is = rw c.as_str.ensures (c.in-Ok.ensures.ok told);
+  is = c.in-Ok-read.ensures.is;
+}
+
+pub returns-clause-disk_fault : goal.returns-clause-disk_fault
+returns-clause-disk_fault g c = c.in-Err.ensures.disk_fault
+
+pub returns-in-Ok-read-clause-within : goal.returns-in-Ok-read-clause-within
+returns-in-Ok-read-clause-within g c = c.in-Ok-read.ensures.within

@@ -1,5 +1,11 @@
-use Rattle.std.proofs.Common.{◌∙◌, List, ℕ, subst, rules, arith}
+use Rattle.std.proofs.Common.{◌≡◌, ◌∙◌, List, ℕ, subst, arith, ap, sym, refl}
+use Rattle.thin_pool.specs.declared.history.Step.{Step}
+use Rattle.thin_pool.specs.CourseValue.{CourseValue}
+use Rattle.thin_pool.specs.Histories.{submissions_in}
+use Rattle.thin_pool.specs.Resting.{IsResting}
 use Rattle.pool_input.specs.Words.{file_names}
+use Rattle.pool_input.specs.Readings.{AreRead}
+use Rattle.pool_input.specs.Submissions.{submit_steps}
 use Rattle.pool_input.proofs.FileByFile.{SoFar, so_far_first, so_far_at, so_far_all, stops_at, no_names, disk_of, rests_next, slots_next, steps_next, read_next, read_none}
 use Rattle.pool_input.proofs.submitting.submit_files.Goals as goal
 
@@ -7,12 +13,12 @@ pub names-init : goal.names-init
 names-init g c = record {
   so_far = λ told. so_far_first (g.C.Clock.allows c.args.clock.now) (g.D.Store.file c.args.store.now) c.args.owner.now (file_names c.args.names.now) c.args.course.now c.requires.empty;
   rests = c.requires.rests;
-  slots = search rules;
-  opening = search rules;
-  steps = search rules;
+  slots = refl;
+  opening = refl;
+  steps = c.requires.empty ∙ sym (ap (λ (l : List Step). submit_steps (submissions_in l)) c.requires.empty);
   read = read_none _ _ c.requires.empty;
-  same = search rules;
-  told = search rules;
+  same = λ told n. (refl, refl);
+  told = refl;
   later = omega arith;
 }
 
@@ -46,3 +52,18 @@ pub returns-clause-ok : goal.returns-clause-ok
 returns-clause-ok g c = λ told.
     let none = no_names c.args.names.now c.names.name-index (omega arith) in
     so_far_all (g.C.Clock.allows c.args.clock.now) (g.D.Store.file c.args.store.now) c.args.owner.now (file_names c.args.names.now) c.args.course.now.pool c.names.course (subst (λ (l : List (List ℕ)). SoFar (g.C.Clock.allows c.args.clock.now) (g.D.Store.file c.args.store.now) c.args.owner.now (file_names c.args.names.now) c.args.course.now.pool l c.names.course) none (c.names.invariant.so_far told))
+
+pub returns-in-Err-clause-rests : goal.returns-in-Err-clause-rests
+returns-in-Err-clause-rests g c = subst (λ (v : CourseValue). IsResting v.pool) (sym c.in-Err.ensures.unchanged) c.names.invariant.rests
+
+pub returns-in-Err-clause-slots : goal.returns-in-Err-clause-slots
+returns-in-Err-clause-slots g c = ap (λ (v : CourseValue). v.pool.slots) c.in-Err.ensures.unchanged ∙ c.names.invariant.slots
+
+pub returns-in-Err-clause-opening : goal.returns-in-Err-clause-opening
+returns-in-Err-clause-opening g c = ap (λ (v : CourseValue). v.opening) c.in-Err.ensures.unchanged ∙ c.names.invariant.opening
+
+pub returns-in-Err-clause-steps : goal.returns-in-Err-clause-steps
+returns-in-Err-clause-steps g c = subst (λ (v : CourseValue). v.list ≡ submit_steps (submissions_in v.list)) (sym c.in-Err.ensures.unchanged) c.names.invariant.steps
+
+pub returns-in-Err-clause-read : goal.returns-in-Err-clause-read
+returns-in-Err-clause-read g c = subst (λ (v : CourseValue). AreRead (g.C.Clock.allows c.args.clock.now) v.list) (sym c.in-Err.ensures.unchanged) c.names.invariant.read
