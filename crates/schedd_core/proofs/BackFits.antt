@@ -100,6 +100,9 @@ apart_jobs q last (x ∷ xs) under = (λ k there same. not_itself x (ap (λ j. i
     after (y ∷ ys) u k (inl same) = ap (λ j. is_lt (key_cmp (Proc x) (Proc j))) same ∙ u.0.later
     after (y ∷ ys) u k (inr there) = later_all q x y ys u.0.later u.1 k there
 
+none_is : {P : Type 0} (claim : ClaimId) → None ≡ Some claim → P
+none_is claim h = cc
+
 module _ (read : List ℕ → Option ClaimId) (reads : IsReader read) (q : KeyedAds) (reading : ℕ) (left : List JobId) where
   -- ---- where the runs that are found come from
   abbrev Origin : List JobId → KeptRun → Type 0
@@ -175,9 +178,9 @@ module _ (read : List ℕ → Option ClaimId) (reads : IsReader read) (q : Keyed
       of_text bytes e h = let of = (reads bytes claim).0 h in (of.0, e ∙ ap (λ b. Some (literal (text b))) of.1)
 
       by : (o : Option Tree) → lookup RUN_CLAIM.now ad ≡ o → claim_by read o ≡ Some claim → IsClaim claim × (lookup RUN_CLAIM.now ad ≡ Some (text_literal (claim_text claim)))
-      by None e h = cc
+      by None e h = none_is claim h
       by (Some (literal (text bytes))) e h = of_text bytes e h
-      by (Some t) e h = cc
+      by (Some t) e h = none_is claim h
 
   -- ---- the runs of the jobs that are under a claim
   module _ (v : ScheddValue) (fit : Fits q v) (left_is : left ≡ still_left q v.left) (jobs : List JobId) (under : AreUnder q None jobs) where

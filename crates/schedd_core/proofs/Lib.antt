@@ -2,6 +2,8 @@ pub mod Prepared
 pub mod PreparedRows
 pub mod FoundJobs
 pub mod LooksTaken
+pub mod Known
+pub mod LogTaken
 pub mod Places
 pub mod AdChanges
 pub mod QueueChanges

@@ -1,5 +1,5 @@
 -- What comes of a look at the periodic expressions of a job that there is.
-use Rattle.std.proofs.Common.{◌≡◌, ℕ, Option, Some, None, refl, ap, ◌∙◌}
+use Rattle.std.proofs.Common.{◌≡◌, ℕ, Option, Some, None, refl, ap, sym, ◌∙◌}
 use Rattle.std.specs.BTreeMap.{insert_entry}
 use Rattle.ad_tree.specs.Ad.{Attributes}
 use Rattle.claim_id.specs.declared.numbers.JobId.{JobId}
@@ -10,7 +10,8 @@ use Rattle.queue_tx.specs.Queues.{KeyedAds, ad_at}
 use Rattle.schedd_plan.specs.declared.places.JobPlace.{JobPlace}
 use Rattle.schedd_plan.specs.declared.plan.JobPlan.{JobPlan}
 use Rattle.schedd_plan.specs.JobPlaces.{job_place}
-use Rattle.schedd_state.specs.Schedds.{ScheddValue, becomes, waits_for}
+use Rattle.schedd_state.specs.declared.answer.ScheddStep.{ScheddStep}
+use Rattle.schedd_state.specs.Schedds.{ScheddValue, becomes, nothing_done, plans, waits_for}
 use Rattle.schedd_core.specs.Checks.{after_check, after_check_by, policy_plan}
 
 pub step_same : (o : Option JobPlan) (v w : ScheddValue) → (waits_for o v).step ≡ (waits_for o w).step
@@ -31,3 +32,16 @@ looked_at v q job ad place reading planned look plans placed looks there =
     ∙ ap (λ (p : JobPlace). waits_for (policy_plan p job ad reading) (w look)) placed
     ∙ ap (λ (l : Key × ℕ). waits_for (policy_plan (job_place q v.left job) job ad reading) (w l)) looks
     ∙ ap (λ (o : Option Attributes). after_check_by o v q job reading) there
+
+-- ---- nothing is planned, or a plan is to be logged
+pub none_waits : (o waiting : Option JobPlan) (v : ScheddValue) → o ≡ None → waiting ≡ v.waiting → record v { waiting = waiting } ≡ (waits_for o v).schedd
+none_waits o waiting v none same = ap (λ (w : Option JobPlan). record v { waiting = w }) same ∙ ap (λ (x : Option JobPlan). (waits_for x v).schedd) (sym none)
+
+pub none_done : (o : Option JobPlan) (v : ScheddValue) (step : ScheddStep) → o ≡ None → step ≡ nothing_done → step ≡ (waits_for o v).step
+none_done o v step none quiet = quiet ∙ ap (λ (x : Option JobPlan). (waits_for x v).step) (sym none)
+
+pub plan_waits : (o : Option JobPlan) (p : JobPlan) (v : ScheddValue) → o ≡ Some p → record v { waiting = Some p } ≡ (waits_for o v).schedd
+plan_waits o p v is = ap (λ (x : Option JobPlan). (waits_for x v).schedd) (sym is)
+
+pub plan_done : (o : Option JobPlan) (p : JobPlan) (v : ScheddValue) (step : ScheddStep) → o ≡ Some p → step ≡ plans p → step ≡ (waits_for o v).step
+plan_done o p v step is planned = planned ∙ ap (λ (x : Option JobPlan). (waits_for x v).step) (sym is)

@@ -1,5 +1,5 @@
 -- That all jobs up to the mark of a schedd were looked at.
-use Rattle.std.proofs.Common.{◌≡◌, ℕ, Bool, true, false, cond, ◌&&◌, ◌||◌, List, [], ◌∷◌, Option, Some, None, is_some, Ok, refl, ap, sym, ◌∙◌, subst}
+use Rattle.std.proofs.Common.{◌≡◌, ℕ, Bool, true, false, true≢false, cond, ◌&&◌, ◌||◌, List, [], ◌∷◌, Option, Some, None, is_some, Ok, refl, ap, sym, ◌∙◌, subst}
 use Rattle.std.specs.Prelude.{IsSome}
 use Rattle.std.specs.declared.cmp.Ordering.{Ordering}
 use Rattle.std.specs.declared.cmp.Ordering.TheVariants.{Less, Equal, Greater}
@@ -70,7 +70,7 @@ below_first : (k first key : Key) → is_lt (key_cmp k first) ≡ true → is_lt
 below_first k first key is below = by (key_cmp k key) refl below
   where
     by : (r : Ordering) → key_cmp k key ≡ r → is_lt r ≡ false → is_gt (key_cmp first key) ≡ true
-    by Less at below = cc
+    by Less at below = absurd (true≢false below)
     by Equal at below = ap is_gt (greater_from_less key_cmp_total key first (subst (λ x. key_cmp x first ≡ Less) (exact_keys k key at) (less_from (key_cmp k first) is)))
     by Greater at below =
         let under : key_cmp key k ≡ Less = key_cmp_total.antisymm key k ∙ ap ordering_reverse at in

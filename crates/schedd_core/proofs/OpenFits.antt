@@ -1,5 +1,5 @@
 -- A schedd fits its queue when the pool opens, and when it comes back after a crash.
-use Rattle.std.proofs.Common.{◌≡◌, ◌⊎◌, inl, inr, true, false, List, [], ◌∷◌, Option, Some, None, refl, ap, sym, ◌∙◌, subst}
+use Rattle.std.proofs.Common.{◌≡◌, ◌⊎◌, inl, inr, true, false, true≢false, List, [], ◌∷◌, Option, Some, None, refl, ap, sym, ◌∙◌, subst}
 use Rattle.std.specs.declared.cmp.Ordering.{Ordering}
 use Rattle.std.specs.declared.cmp.Ordering.TheVariants.{Less, Equal, Greater}
 use Rattle.std.specs.Ordering.{is_lt, is_gt}
@@ -41,14 +41,14 @@ same_keys a b e = ap job_in e
 
 -- each job that is later is in the list
 pub listed : (q : KeyedAds) (last : Option JobId) (jobs : List JobId) → AreUnder q last jobs → (job : JobId) → IsJobOf kind.Under q (Proc job) → is_later last (Proc job) ≡ true → IsIn job jobs
-listed q last [] under job is later = let clash : true ≡ false = sym later ∙ under (Proc job) is in cc
+listed q last [] under job is later = absurd (true≢false (sym later ∙ under (Proc job) is))
 listed q last (x ∷ xs) under job is later =
     by (key_cmp (Proc x) (Proc job)) refl (under.0.first (Proc job) is later) (λ after. listed q (Some x) xs under.1 job is after)
   where
     by : (r : Ordering) → key_cmp (Proc x) (Proc job) ≡ r → is_gt r ≡ false → (is_lt (key_cmp (Proc x) (Proc job)) ≡ true → IsIn job xs) → (job ≡ x) ⊎ IsIn job xs
     by Less e before rest = inr (rest (ap is_lt e))
     by Equal e before rest = inl (sym (same_keys x job (exact_keys (Proc x) (Proc job) e)))
-    by Greater e before rest = cc
+    by Greater e before rest = absurd (true≢false before)
 
 -- each job of the list is under a claim
 pub of_list : (q : KeyedAds) (last : Option JobId) (jobs : List JobId) → AreUnder q last jobs → (job : JobId) → IsIn job jobs → is_under_at q job ≡ true

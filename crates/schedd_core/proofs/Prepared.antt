@@ -20,6 +20,7 @@ use Rattle.schedd_plan.specs.JobPlaces.{let_go}
 use Rattle.schedd_plan.specs.KeptClaims.{with_job}
 use Rattle.schedd_plan.specs.KeptRuns.{runs_without, with_run, with_alive}
 use Rattle.schedd_plan.specs.TickTable.{lease_end}
+use Rattle.schedd_state.specs.declared.answer.ScheddStep.{ScheddStep}
 use Rattle.schedd_state.specs.declared.prepared.PreparedSchedd.{PreparedSchedd}
 use Rattle.schedd_state.specs.DueLines.{tick_line}
 use Rattle.schedd_state.specs.Leaving.{left_claims}
@@ -142,3 +143,8 @@ ticked_so v q reading line found p is sought prepared = record {
   schedd = prepared.schedd ∙ ap (λ (l : TickLine). (after_line v q l found reading).schedd) is;
   done = prepared.step ∙ ap (λ (l : TickLine). (after_line v q l found reading).step) is;
 }
+
+-- what was prepared has happened
+pub tick_taken : (v : ScheddValue) (q : KeyedAds) (reading : ℕ) (p : PreparedSchedd) (new : ScheddValue) (step : ScheddStep)
+    → new ≡ schedd_after p v → step ≡ p.step → IsTicked v q reading (schedd_after p v) p.step → IsTicked v q reading new step
+tick_taken v q reading p new step is done ticked = record { found = ticked.found; sought = ticked.sought; schedd = is ∙ ticked.schedd; done = done ∙ ticked.done }
