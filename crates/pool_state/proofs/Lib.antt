@@ -1,3 +1,6 @@
 mod Due
+mod Jobs
 mod Kept
 mod Opened
+mod Outcomes
+mod Startds
