@@ -8,3 +8,4 @@ pub mod Receiving
 pub mod Refusing
 pub mod Resting
 pub mod TooLarge
+pub mod Variants

@@ -1,9 +1,10 @@
--- That a pool is at rest changes nothing of what it refuses.
-use Rattle.std.proofs.Common.{inl, inr, ℕ, List, [], ◌∷◌, Option, Some, None, slice_get}
+-- That a pool is at rest changes nothing of what it refuses, and of what is read of it.
+use Rattle.std.proofs.Common.{inl, inr, ℕ, List, [], ◌∷◌, Option, Some, None, Result, Ok, Err, OnErr, ◌≡◌, ap, slice_get}
 use Rattle.ad_eval.specs.Judgement.{Judgement, Mismatch}
 use Rattle.ad_tree.specs.Ad.{Attributes}
 use Rattle.claim_id.specs.declared.numbers.ClaimId.{ClaimId}
 use Rattle.claim_id.specs.declared.numbers.SlotId.{SlotId}
+use Rattle.pool_parts.specs.declared.answer.Stepped.{Stepped}
 use Rattle.pool_parts.specs.declared.event.Event.{Event}
 use Rattle.pool_parts.specs.declared.event.Event.TheVariants as event
 use Rattle.pool_mail.specs.declared.mail.Mail.{Mail}
@@ -17,6 +18,7 @@ use Rattle.pool_state.specs.declared.state.PoolState.{PoolState}
 use Rattle.pool_state.specs.Openings.{IsOpenedBy}
 use Rattle.pool_state.specs.PoolViews.{IsViewOf}
 use Rattle.pool_state.specs.Readings.{IsDue}
+use Rattle.pool_tables.specs.declared.refusal.StepError.{StepError}
 use Rattle.pool_tables.specs.declared.sent.Sent.{Sent}
 use Rattle.pool_view.specs.declared.view.View.{View}
 use Rattle.pool_rules.specs.Deeds.{at_rest}
@@ -136,3 +138,8 @@ view_rest v = record {
   reports = v.reports;
   slots = v.slots;
 }
+
+-- ---- a pool that an error leaves as it was
+pub rests_too : (r : Result Stepped StepError) (s new : PoolState) → OnErr r (new ≡ s) → OnErr r (at_rest new ≡ at_rest s)
+rests_too (Ok x) s new same = tt
+rests_too (Err e) s new same = ap at_rest same

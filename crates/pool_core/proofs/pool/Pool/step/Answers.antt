@@ -1,10 +1,14 @@
-use Rattle.std.proofs.Common.{OnOk, IfOk, sym, subst}
+use Rattle.std.proofs.Common.{◌≡◌, ◌≢◌, None, OnErr, OnOk, IfErr, IfOk, sym, subst}
 use Rattle.pool_parts.specs.Appends.{CanAppend}
 use Rattle.pool_rules.specs.Deeds.{at_rest}
 use Rattle.pool_rules.specs.Given.{IsGiven}
 use Rattle.pool_rules.specs.Histories.{MovesView}
 use Rattle.pool_state.specs.declared.state.PoolState.{PoolState}
 use Rattle.pool_rules.specs.Counted.{CountsBytes}
+use Rattle.pool_rules.specs.Happens.{Reacts}
+use Rattle.pool_rules.specs.Refusals.{IsRefusal}
+use Rattle.pool_tables.specs.declared.refusal.StepError.TheVariants as error
+use Rattle.pool_core.specs.Refused.{IsRefused}
 use Rattle.pool_core.proofs.CountedSteps.{step_counts}
 use Rattle.pool_core.proofs.Keeping.{step_appends, step_kept, step_launches, step_moves}
 use Rattle.pool_core.proofs.pool.Pool.step.Goals as goal
@@ -43,3 +47,15 @@ returns-clause-counted c =
     let event = c.args.event.now in
     subst (λ (s : PoolState). OnOk c.step.result (CountsBytes event s (at_rest c.step.new.state))) c.self.view_is
     (step_counts event (at_rest c.self.inside.state) (at_rest c.step.new.state) c.step.result c.self.invariant c.step.ensures.reacts)
+
+pub returns-clause-accepted : goal.returns-clause-accepted
+returns-clause-accepted c = subst (λ (s : PoolState). OnOk c.step.result (IsRefusal c.args.event.now s None)) c.self.view_is c.step.ensures.accepted
+
+pub returns-clause-reacts : goal.returns-clause-reacts
+returns-clause-reacts c = subst (λ (s : PoolState). IfOk c.step.result (λ r. Reacts s c.args.event.now r (at_rest c.step.new.state))) c.self.view_is c.step.ensures.reacts
+
+pub returns-clause-refused : goal.returns-clause-refused
+returns-clause-refused c = subst (λ (s : PoolState). IfErr c.step.result (λ e. e ≢ error.Memory → IsRefused c.args.event.now s e)) c.self.view_is c.step.ensures.refused
+
+pub returns-clause-same : goal.returns-clause-same
+returns-clause-same c = subst (λ (s : PoolState). OnErr c.step.result (at_rest c.step.new.state ≡ s)) c.self.view_is c.step.ensures.same
