@@ -5,3 +5,5 @@ pub mod RunLists
 pub mod UserLogs
 pub mod Pieces
 pub mod Results
+pub mod Looks
+pub mod Walks

@@ -19,7 +19,7 @@ use Rattle.pool_input.specs.Faults.{UnlessFault}
 use Rattle.pool_input.specs.Input.{IsOfFiles, OfFilesFrom, OfInputFrom, IsRefusedByFiles, IsInputRefused}
 use Rattle.pool_input.specs.Words.{IsRun, IsNoRun}
 use Rattle.pool_input.specs.Readings.{AreRead}
-use Rattle.pool_input.specs.Status.{Stage, AtWords, AtFiles, AtAnyTime, AfterClose, Later, stage_of, IsAtFiles, IsAfterFiles, IsRefusal}
+use Rattle.pool_input.specs.Status.{Stage, AtWords, AtFiles, AtAnyTime, AfterClose, Later, stage_of, IsBeforePool, IsAtFiles, IsAfterFiles, IsToday, IsRefusal}
 use Rattle.pool_master.specs.Runs.{JobRun, runs_in, runs_on}
 use Rattle.pool_master.specs.Follows.{Follows, HasLaunched, spawner_at, IsBetween, EachGoesOn, AreUntouched, AtEach}
 use Rattle.pool_master.specs.Seen.{SpawnerSeen, SinkSeen}
@@ -182,6 +182,17 @@ printed_runs allows spawner first now sink o q s h p is closed read follows unto
   out_fault = λ e. (out_fault_of s (job_left p) _ _ printed e, (job_left p, closes h p is closed));
 }
 
+-- the same, where the history's list is known by another name
+pub printed_after : {P K : Type 0} (allows : ℕ → Type 0) (spawner : P → SpawnerSeen) (first now : List P) (sink : K → SinkSeen) (o q : K) (s : Status) (h : History) (p : PoolValue) (list : List Step) → IsPlayed h p → h.list ≡ list → p.closed ≡ true → AreRead allows list → AtEach first now (λ m a b. Follows (spawner a) (spawner b) (runs_on m (runs_in list))) → AreUntouched first now (runs_in list) → IsBetween spawner now (runs_in list) → ((sink o).tells ≡ true → WritesPart h (sink o).written (sink q).written) → ((sink o).tells ≡ true → (s ≡ status.Done) ⊎ (s ≡ status.Stuck) → WritesAll h (sink o).written (sink q).written) → IsPrinted (job_left p) (sink o).faults (sink q).faults s → PoolRuns allows spawner first now sink o q s h
+printed_after allows spawner first now sink o q s h p list is same closed read follows untouched between part whole printed =
+    let back = sym same in
+    printed_runs allows spawner first now sink o q s h p is closed
+    (subst (λ (l : List Step). AreRead allows l) back read)
+    (subst (λ (l : List Step). AtEach first now (λ m a b. Follows (spawner a) (spawner b) (runs_on m (runs_in l)))) back follows)
+    (subst (λ (l : List Step). AreUntouched first now (runs_in l)) back untouched)
+    (subst (λ (l : List Step). IsBetween spawner now (runs_in l)) back between)
+    part whole printed
+
 open_pool_clash : {A : Type 0} (h : History) (p : PoolValue) (left : Bool) → IsPlayed h p → p.closed ≢ true → IsClosed h left → A
 open_pool_clash h p left is open_ closed = absurd (open_ (closed_so h p left is closed).0)
 
@@ -203,6 +214,14 @@ open_runs allows spawner first now sink o h p is open_ read follows untouched = 
   stuck_comes = λ c quiet. open_pool_clash h p true is open_ c;
   out_fault = λ e. cc;
 }
+
+pub open_after : {P K : Type 0} (allows : ℕ → Type 0) (spawner : P → SpawnerSeen) (first now : List P) (sink : K → SinkSeen) (o : K) (h : History) (p : PoolValue) (list : List Step) → IsPlayed h p → h.list ≡ list → p.closed ≢ true → AreRead allows list → AtEach first now (λ m a b. Follows (spawner a) (spawner b) (runs_on m (runs_in list))) → AreUntouched first now (runs_in list) → PoolRuns allows spawner first now sink o o status.Memory h
+open_after allows spawner first now sink o h p list is same open_ read follows untouched =
+    let back = sym same in
+    open_runs allows spawner first now sink o h p is open_
+    (subst (λ (l : List Step). AreRead allows l) back read)
+    (subst (λ (l : List Step). AtEach first now (λ m a b. Follows (spawner a) (spawner b) (runs_on m (runs_in l)))) back follows)
+    (subst (λ (l : List Step). AreUntouched first now (runs_in l)) back untouched)
 
 -- A log that was made is the log: what was written of it is a prefix of the log.
 pub writes_part : (h : History) (log old new : List ℕ) → IsUserLog h log → (n : ℕ) × (new ≡ old ++ take n log) → WritesPart h old new
@@ -232,6 +251,38 @@ files_no_close AtFiles early = λ is. cc
 files_no_close AtAnyTime early = λ is. cc
 files_no_close AfterClose early = absurd early
 files_no_close Later early = absurd early
+
+-- ---- stages
+
+at_today : (s : Stage) → IsAtFiles s → IsToday s
+at_today AtWords early = absurd early
+at_today AtFiles early = tt
+at_today AtAnyTime early = tt
+at_today AfterClose early = tt
+at_today Later early = absurd early
+
+pub files_today : (s : Status) → IsAtFiles (stage_of s) → IsToday (stage_of s) × (s ≢ status.Usage)
+files_today s early = (at_today (stage_of s) early, λ is. subst (λ (x : Status). IsAtFiles (stage_of x)) is early)
+
+after_today : (s : Stage) → IsAfterFiles s → IsToday s
+after_today AtWords late = absurd late
+after_today AtFiles late = absurd late
+after_today AtAnyTime late = tt
+after_today AfterClose late = tt
+after_today Later late = absurd late
+
+pub late_today : (s : Status) → IsAfterFiles (stage_of s) → IsToday (stage_of s) × (s ≢ status.Usage)
+late_today s late = (after_today (stage_of s) late, λ is. subst (λ (x : Status). IsAfterFiles (stage_of x)) is late)
+
+pub late_no_fault : (s : Status) → IsAfterFiles (stage_of s) → s ≢ status.DiskFault
+late_no_fault s late = λ is. subst (λ (x : Status). IsAfterFiles (stage_of x)) is late
+
+pub late_not_early : (s : Stage) → IsAfterFiles s → IsBeforePool s → ⊥
+late_not_early AtWords late early = late
+late_not_early AtFiles late early = late
+late_not_early AtAnyTime late early = early
+late_not_early AfterClose late early = early
+late_not_early Later late early = late
 
 -- ---- what the files say
 
@@ -311,6 +362,10 @@ runs_lent {P} allows spawner lent first now whole sink o q status_is history sam
 pub of_no_input : (allows : ℕ → Type 0) (file : Contents) (words : List (List ℕ)) (opening : Option PoolValue) (list : List Step) → opening ≡ None → OfInputFrom allows file words opening list
 of_no_input allows file words None list none = tt
 of_no_input allows file words (Some p) list none = cc
+
+pub of_no_files : (allows : ℕ → Type 0) (file : Contents) (config : List ℕ) (submits : List (List ℕ)) (opening : Option PoolValue) (list : List Step) → opening ≡ None → OfFilesFrom allows file config submits opening list
+of_no_files allows file config submits None list none = tt
+of_no_files allows file config submits (Some p) list none = cc
 
 -- ---- statuses that are not each other, and counts
 

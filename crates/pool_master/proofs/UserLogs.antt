@@ -17,6 +17,14 @@ use Rattle.thin_pool.specs.PoolValue.{PoolValue}
 use Rattle.thin_pool.specs.Reactions.{takes_number, last_cluster_after}
 use Rattle.pool_master.specs.UserLog.{IsStamp, IsEntry, AreEntries, IsSubmitLines, IsStartLines, IsEndLines, IsLines, ArePrinted, IsLogOf, never_starts, numbers_text, submitted_text, submission_text, last_cluster_with}
 
+-- one entry
+pub enters_one : (number : List ℕ) (cluster proc reading : ℕ) (said numbers stamp text : List ℕ) → text ≡ number ++ (codes " " ++ (numbers ++ (codes " " ++ (stamp ++ (codes " " ++ said))))) → numbers ≡ numbers_text cluster proc → IsStamp reading stamp → IsEntry number cluster proc reading said text
+enters_one number cluster proc reading said numbers stamp text is same stamped = record {
+  stamp = stamp;
+  stamp_is = stamped;
+  is = is ∙ ap (λ (t : List ℕ). number ++ (codes " " ++ (t ++ (codes " " ++ (stamp ++ (codes " " ++ said)))))) same;
+}
+
 -- one event more
 pub prints_on : (slots : List PoolSlot) (start last after_it : ℕ) (all rest after : List Step) (step : Step) (text new first : List ℕ) → rest ≡ step ∷ after → IsLines slots last after step.event first → after_it ≡ last_cluster_with last step.event → new ≡ text ++ first → ((more : List ℕ) → ArePrinted slots last rest more → ArePrinted slots start all (text ++ more)) → (more : List ℕ) → ArePrinted slots after_it after more → ArePrinted slots start all (new ++ more)
 prints_on slots start last after_it all rest after step text new first is printed count grown so_far more later =

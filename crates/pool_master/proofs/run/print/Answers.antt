@@ -24,3 +24,17 @@ returns-clause-written g c = λ told.
     let part = c.in-Err-write_all.ensures.part told in
     let bytes : c.as_bytes.result.now ≡ c.in-Ok.text = search rules in
     writes_part c.args.history.now c.in-Ok.text _ _ is (part.0, part.1 ∙ ap (λ t. g.K.Sink.written c.args.out.now ++ take part.0 t) bytes)
+
+pub returns-in-Ok-2-clause-all_written : goal.returns-in-Ok-2-clause-all_written
+returns-in-Ok-2-clause-all_written g c = λ told ends. record {
+  text = c.in-Ok.text;
+  is_log = c.in-Ok.ensures;
+  written = c.in-Ok-2.ensures.written told ∙ ap (λ t. g.K.Sink.written c.args.out.now ++ t) (c.as_bytes.ensures.value ∙ c.as_str.ensures);
+}
+
+pub returns-in-Ok-write_all-clause-all_written : goal.returns-in-Ok-write_all-clause-all_written
+returns-in-Ok-write_all-clause-all_written g c = λ told ends. record {
+  text = c.in-Ok.text;
+  is_log = c.in-Ok.ensures;
+  written = c.in-Ok-write_all.ensures.written told ∙ ap (λ t. g.K.Sink.written c.args.out.now ++ t) (c.as_bytes.ensures.value ∙ c.as_str.ensures);
+}

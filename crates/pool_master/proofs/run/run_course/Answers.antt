@@ -1,11 +1,11 @@
-use Rattle.std.proofs.Common.{◌≡◌, ◌≢◌, ◌∙◌, true, false, [], Some, refl, sym, ap, arith}
+use Rattle.std.proofs.Common.{◌≡◌, ◌≢◌, ◌∙◌, true, true≢false, [], Some, refl, sym, ap, subst}
 use Rattle.thin_pool.specs.PoolValue.{PoolValue}
 use Rattle.thin_pool.specs.Histories.{submissions_in}
 use Rattle.thin_pool.specs.Reactions.{opening_pool}
 use Rattle.pool_master.specs.Runs.{runs_in}
 use Rattle.pool_master.proofs.RunLists.{submits_no_runs}
 use Rattle.pool_master.proofs.Spawners.{all_at, between_none}
-use Rattle.pool_master.proofs.PoolRun.{played, follows_all, printed_runs, open_runs, printed_late}
+use Rattle.pool_master.proofs.PoolRun.{played, follows_all, printed_after, open_after, printed_late, none_below}
 use Rattle.pool_master.proofs.run.run_course.Goals as goal
 
 pub play-played-requires : goal.play-played-requires
@@ -14,7 +14,7 @@ play-played-requires g c =
     record {
       resting = c.requires.submitted.rests;
       placed = rw (c.requires.submitted.slots, c.requires.machines) c.requires.submitted.placed;
-      between = between_none _ _ _ none (λ m s is. let zero = all_at (λ x. g.P.Spawner.count x ≡ 0) c.args.spawners.now m s c.requires.idle is in record { none = zero; all = g.met.P.Spawner.counted s; spared = λ told k. (g.met.P.Spawner.unborn s k told (omega arith)).1 });
+      between = between_none _ _ _ none (λ m s is. let zero = all_at (λ x. g.P.Spawner.count x ≡ 0) c.args.spawners.now m s c.requires.idle is in record { none = zero; all = g.met.P.Spawner.counted s; spared = λ told k. (g.met.P.Spawner.unborn s k told (none_below zero)).1 });
     }
 
 pub print-requires : goal.print-requires
@@ -26,14 +26,14 @@ returns-in-Ok-clause-runs g c =
     let play = c.in-Ok.ensures in
     let none : runs_in c.args.course.list ≡ [] = ap runs_in c.requires.submitted.steps ∙ submits_no_runs (submissions_in c.args.course.list) in
     let o = c.play-played.new.course.opening in
-    let opened : o ≡ opening_pool o.slots = rw play.opening c.requires.submitted.opened in
+    let opened : o ≡ opening_pool o.slots = subst (λ (q : PoolValue). q ≡ opening_pool q.slots) (sym play.opening) c.requires.submitted.opened in
     let is = played o c.play-played.new.course.list c.finish-history.result.0 c.finish-history.result.1 opened end.list end.history end.safe end.shows in
     let closed : c.finish-history.result.1.closed ≡ true = ap (λ (p : PoolValue). p.closed) end.pool ∙ play.closed.0 refl in
-    printed_runs _ _ _ _ _ _ _ c.print.result c.finish-history.result.0 c.finish-history.result.1 is closed
-    (rw end.list (play.read c.requires.submitted.read))
-    (rw end.list (follows_all _ _ _ (runs_in c.args.course.list) (runs_in c.play-played.new.course.list) none (λ m s is. let zero = all_at (λ x. g.P.Spawner.count x ≡ 0) c.args.spawners.now m s c.requires.idle is in record { none = zero; all = g.met.P.Spawner.counted s; spared = λ told k. (g.met.P.Spawner.unborn s k told (omega arith)).1 }) play.follows))
-    (rw end.list (play.untouched c.args.spawners.now (λ m none. refl)))
-    (rw end.list play.between)
+    printed_after _ _ _ _ _ _ _ c.print.result c.finish-history.result.0 c.finish-history.result.1 c.play-played.new.course.list is end.list closed
+    (play.read c.requires.submitted.read)
+    (follows_all _ _ _ (runs_in c.args.course.list) (runs_in c.play-played.new.course.list) none (λ m s is. let zero = all_at (λ x. g.P.Spawner.count x ≡ 0) c.args.spawners.now m s c.requires.idle is in record { none = zero; all = g.met.P.Spawner.counted s; spared = λ told k. (g.met.P.Spawner.unborn s k told (none_below zero)).1 }) play.follows)
+    (play.untouched c.args.spawners.now (λ m none. refl))
+    play.between
     c.print.ensures.written c.print.ensures.all_written c.print.ensures.printed
 
 pub returns-in-Ok-clause-opening : goal.returns-in-Ok-clause-opening
@@ -54,13 +54,13 @@ returns-clause-runs g c =
     let play = c.in-Err.ensures in
     let none : runs_in c.args.course.list ≡ [] = ap runs_in c.requires.submitted.steps ∙ submits_no_runs (submissions_in c.args.course.list) in
     let o = c.play-played.new.course.opening in
-    let opened : o ≡ opening_pool o.slots = rw play.opening c.requires.submitted.opened in
+    let opened : o ≡ opening_pool o.slots = subst (λ (q : PoolValue). q ≡ opening_pool q.slots) (sym play.opening) c.requires.submitted.opened in
     let is = played o c.play-played.new.course.list c.finish-history.result.0 c.finish-history.result.1 opened end.list end.history end.safe end.shows in
-    let left_open : c.finish-history.result.1.closed ≢ true = λ closed. let clash : false ≡ true = play.closed.1 (ap (λ (p : PoolValue). p.closed) (sym end.pool) ∙ closed) in cc in
-    open_runs _ _ _ _ _ _ c.finish-history.result.0 c.finish-history.result.1 is left_open
-    (rw end.list (play.read c.requires.submitted.read))
-    (rw end.list (follows_all _ _ _ (runs_in c.args.course.list) (runs_in c.play-played.new.course.list) none (λ m s is. let zero = all_at (λ x. g.P.Spawner.count x ≡ 0) c.args.spawners.now m s c.requires.idle is in record { none = zero; all = g.met.P.Spawner.counted s; spared = λ told k. (g.met.P.Spawner.unborn s k told (omega arith)).1 }) play.follows))
-    (rw end.list (play.untouched c.args.spawners.now (λ m none. refl)))
+    let left_open : c.finish-history.result.1.closed ≢ true = λ closed. true≢false (sym (play.closed.1 (ap (λ (p : PoolValue). p.closed) (sym end.pool) ∙ closed))) in
+    open_after _ _ _ _ _ _ c.finish-history.result.0 c.finish-history.result.1 c.play-played.new.course.list is end.list left_open
+    (play.read c.requires.submitted.read)
+    (follows_all _ _ _ (runs_in c.args.course.list) (runs_in c.play-played.new.course.list) none (λ m s is. let zero = all_at (λ x. g.P.Spawner.count x ≡ 0) c.args.spawners.now m s c.requires.idle is in record { none = zero; all = g.met.P.Spawner.counted s; spared = λ told k. (g.met.P.Spawner.unborn s k told (none_below zero)).1 }) play.follows)
+    (play.untouched c.args.spawners.now (λ m none. refl))
 
 pub returns-clause-opening : goal.returns-clause-opening
 returns-clause-opening g c =

@@ -3,7 +3,7 @@ use Rattle.pool_input.specs.Input.{IsRefusedOf}
 use Rattle.pool_input.specs.Status.{stage_of}
 use Rattle.pool_input.specs.Words.{file_names}
 use Rattle.pool_master.proofs.Spawners.{all_at}
-use Rattle.pool_master.proofs.PoolRun.{nothing_runs, files_no_close, of_files, refusal_of, late_no_refusal}
+use Rattle.pool_master.proofs.PoolRun.{nothing_runs, files_no_close, files_today, of_files, of_no_files, refusal_of, late_no_refusal, late_not_early, late_today, late_no_fault}
 use Rattle.pool_master.proofs.run.run_files.Goals as goal
 
 pub returns-in-Err-clause-runs : goal.returns-in-Err-clause-runs
@@ -25,3 +25,18 @@ returns-in-Ok-clause-refused_comes g c = λ told s refused. absurd (c.in-Ok.ensu
 
 pub returns-in-Err-clause-refused_comes : goal.returns-in-Err-clause-refused_comes
 returns-in-Err-clause-refused_comes g c = λ told s refused. c.in-Err.ensures.refused_comes told s refused
+
+pub returns-in-Err-clause-today : goal.returns-in-Err-clause-today
+returns-in-Err-clause-today g c = files_today c.in-Err.status c.in-Err.ensures.early
+
+pub returns-in-Err-clause-files : goal.returns-in-Err-clause-files
+returns-in-Err-clause-files g c = λ told. of_no_files _ _ _ _ c.no_history.result.opening c.no_history.result.list c.no_history.ensures.nothing.no_opening
+
+pub returns-in-Ok-clause-early : goal.returns-in-Ok-clause-early
+returns-in-Ok-clause-early g c = λ early. absurd (late_not_early (stage_of c.run_course.result.0) c.run_course.ensures.late early)
+
+pub returns-in-Ok-clause-today : goal.returns-in-Ok-clause-today
+returns-in-Ok-clause-today g c = late_today c.run_course.result.0 c.run_course.ensures.late
+
+pub returns-in-Ok-clause-disk_fault : goal.returns-in-Ok-clause-disk_fault
+returns-in-Ok-clause-disk_fault g c = λ is. absurd (late_no_fault c.run_course.result.0 c.run_course.ensures.late is)
