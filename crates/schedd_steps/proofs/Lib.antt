@@ -1,7 +1,9 @@
 pub mod Counted
+pub mod DeedReady
 pub mod Looked
 pub mod MarkMoves
 pub mod QueueChanged
+pub mod Received
 pub mod Refused
 pub mod TooLarge
 pub mod UnfinishedDone

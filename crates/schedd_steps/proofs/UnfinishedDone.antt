@@ -23,6 +23,7 @@ use Rattle.pool_rules.specs.Limits.{IsTooLarge}
 use Rattle.pool_rules.specs.Logging.{IsBackWith, IsBackWithout, IsLogged, after_unfinished, cluster_jobs, leaver_of, with_logged, with_plan, with_submission}
 use Rattle.schedd_steps.specs.Counting.{IsBackTooLarge, bytes_after, bytes_planned, submitted, with_counts}
 use Rattle.schedd_steps.specs.Ready.{IsLogDeed}
+use Rattle.pool_parts.specs.Growth.{Grows}
 use Rattle.schedd_steps.proofs.Counted.{counted_as, logged_with}
 
 abbrev pub queue_of : LogDeed → PoolState → KeyedAds
@@ -145,3 +146,12 @@ submission_too_large d cluster count (Some p) old what ready above =
       above = above;
     }
 submission_too_large d cluster count None old what ready above = absurd ready
+
+-- ---- what is ready can be undone, and its growth is known
+pub undone_so : (d : LogDeed) (o : Option Pending) (s : PoolState) → IsSomeAnd o (IsLogDeed s d) → with_changes (queue_of d s) d.queue.undo ≡ s.queue
+undone_so d (Some p) s ready = ready.undone
+undone_so d None s ready = absurd ready
+
+pub grows_so : (d : LogDeed) (o : Option Pending) (s : PoolState) → IsSomeAnd o (IsLogDeed s d) → Grows d.queue.growth s.queue (queue_of d s)
+grows_so d (Some p) s ready = ready.growth
+grows_so d None s ready = absurd ready

@@ -1,5 +1,5 @@
 use Rattle.std.proofs.Common.{◌≡◌, ℕ, Err, List, ap, subst, sym, ◌∙◌}
-use Rattle.schedd_state.specs.PreparedSchedds.{schedd_after}
+use Rattle.schedd_state.specs.PreparedSchedds.{schedd_after, HasClaimRoom}
 use Rattle.pool_mail.specs.declared.mail.Mail.{Mail}
 use Rattle.pool_state.specs.declared.state.PoolState.{PoolState}
 use Rattle.pool_tables.specs.MailLists.{MailsValue}
@@ -65,3 +65,8 @@ returns-clause-pool c =
     ∙ ap (λ (n : ℕ). record (with_counts d n q old) { schedd = x; mails = rm }) c.in_ok-prepared.ensures.bytes
     ∙ ap (λ (v : ScheddValue). record (with_counts d (bytes_planned q old) q old) { schedd = v; mails = rm }) schedd
     ∙ ap (λ (m : MailsValue). record (with_counts d (bytes_planned q old) q old) { schedd = a.schedd; mails = m }) sent
+
+pub commit-step-requires : goal.commit-step-requires
+commit-step-requires c =
+    subst (λ (v : ScheddValue). HasClaimRoom c.in_ok-prepared.field-0.prepared v)
+    (sym (ap (λ (s : PoolState). s.schedd) c.commit.ensures ∙ ap (λ (s : PoolState). s.schedd) c.in_ok-prepared.ensures.queue)) c.in_ok-prepared.ensures.claims

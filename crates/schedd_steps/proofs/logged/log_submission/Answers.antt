@@ -1,8 +1,11 @@
-use Rattle.std.proofs.Common.{Err, ap, refl, subst, sym}
+use Rattle.std.proofs.Common.{Err, ap, refl, subst, sym, List, ◌∙◌}
 use Rattle.pool_rules.specs.Limits.{IsWithin}
 use Rattle.pool_tables.specs.declared.refusal.StepError.{StepError}
 use Rattle.pool_tables.specs.declared.refusal.StepError.TheVariants as error
 use Rattle.queue_tx.specs.Queues.{with_changes}
+use Rattle.claim_id.specs.declared.numbers.JobId.{JobId}
+use Rattle.pool_state.specs.declared.state.PoolState.{PoolState}
+use Rattle.pool_steps.specs.Growing.{HasPlaces}
 use Rattle.schedd_steps.proofs.Counted.{submitted_so}
 use Rattle.schedd_steps.proofs.Refused.{at_err, is_limit, limit_passed, no_bytes, no_err, not_done, same_error}
 use Rattle.schedd_steps.proofs.logged.log_submission.Goals as goal
@@ -44,3 +47,8 @@ returns-in_err-jobs c =
       refused = is_limit r memory;
       kept = at_err r refl;
     }
+
+pub join-requires : goal.join-requires
+join-requires c =
+    subst (λ (jobs : List JobId). HasPlaces jobs c.in_ok-jobs.jobs)
+    (sym (ap (λ (s : PoolState). s.acked) c.commit.ensures ∙ ap (λ (s : PoolState). s.acked) c.in_ok-bytes.ensures.queue)) c.in_ok-jobs.ensures.places

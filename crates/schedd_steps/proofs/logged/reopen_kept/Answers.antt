@@ -1,5 +1,5 @@
 use Rattle.std.proofs.Common.{◌≡◌, ℕ, Err, ap, refl, subst, sym, ◌∙◌}
-use Rattle.schedd_state.specs.PreparedSchedds.{schedd_after}
+use Rattle.schedd_state.specs.PreparedSchedds.{schedd_after, HasClaimRoom}
 use Rattle.pool_state.specs.declared.state.PoolState.{PoolState}
 use Rattle.queue_tx.specs.Queues.{with_changes}
 use Rattle.schedd_state.specs.Schedds.{ScheddValue}
@@ -9,7 +9,7 @@ use Rattle.pool_tables.specs.declared.refusal.StepError.{StepError}
 use Rattle.pool_tables.specs.declared.refusal.StepError.TheVariants as error
 use Rattle.schedd_steps.specs.Counting.{bytes_after, with_counts}
 use Rattle.schedd_steps.proofs.Refused.{at_err, is_limit, limit_passed, no_bytes, no_err, no_ok, not_done, same_error}
-use Rattle.schedd_steps.proofs.UnfinishedDone.{back_too_large, back_with}
+use Rattle.schedd_steps.proofs.UnfinishedDone.{back_too_large, back_with, grows_so, undone_so}
 use Rattle.schedd_steps.proofs.logged.reopen_kept.Goals as goal
 
 pub returns-clause-within : goal.returns-clause-within
@@ -66,3 +66,14 @@ returns-clause-back c =
           ∙ ap (λ (y : ScheddValue). at_rest (record (with_counts d (bytes_after q old) q old) { schedd = y })) schedd),
       c.nothing_asked.ensures,
     )
+
+pub go_on_back-requires-clause-undo : goal.go_on_back-requires-clause-undo
+go_on_back-requires-clause-undo c = undone_so c.in_ok-queue.field-0 c.args.state.now.pending c.args.state.now c.in_ok-queue.ensures
+
+pub go_on_back-requires-clause-growth : goal.go_on_back-requires-clause-growth
+go_on_back-requires-clause-growth c = grows_so c.in_ok-queue.field-0 c.args.state.now.pending c.args.state.now c.in_ok-queue.ensures
+
+pub commit-step-requires : goal.commit-step-requires
+commit-step-requires c =
+    subst (λ (v : ScheddValue). HasClaimRoom c.in_ok-prepared.field-0.prepared v)
+    (sym (ap (λ (s : PoolState). s.schedd) c.commit.ensures ∙ ap (λ (s : PoolState). s.schedd) c.in_ok-prepared.ensures.queue)) c.in_ok-prepared.ensures.claims

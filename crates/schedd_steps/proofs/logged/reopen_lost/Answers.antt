@@ -2,6 +2,8 @@ use Rattle.std.proofs.Common.{None, ap}
 use Rattle.schedd_state.specs.PreparedSchedds.{schedd_after}
 use Rattle.schedd_state.specs.Schedds.{ScheddValue}
 use Rattle.pool_rules.specs.Deeds.{at_rest}
+use Rattle.pool_tables.specs.declared.refusal.StepError.TheVariants as error
+use Rattle.schedd_steps.proofs.Refused.{no_err}
 use Rattle.schedd_steps.proofs.UnfinishedDone.{lost_too_large}
 use Rattle.schedd_steps.proofs.logged.reopen_lost.Goals as goal
 
@@ -19,3 +21,6 @@ returns-clause-back c =
       },
       c.nothing_asked.ensures,
     )
+
+pub returns-clause-large : goal.returns-clause-large
+returns-clause-large c = λ is. no_err _ error.Bytes is

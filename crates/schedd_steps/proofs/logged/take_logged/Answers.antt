@@ -3,8 +3,8 @@ use Rattle.pool_rules.specs.Deeds.{at_rest}
 use Rattle.pool_state.specs.declared.state.PoolState.{PoolState}
 use Rattle.pool_tables.specs.declared.refusal.StepError.{StepError}
 use Rattle.pool_tables.specs.declared.refusal.StepError.TheVariants as error
-use Rattle.schedd_steps.proofs.Refused.{at_err, is_limit, limit_passed, no_bytes, no_ok, not_done, same_error}
-use Rattle.schedd_steps.proofs.UnfinishedDone.{logged_submission, plan_too_large, submission_too_large}
+use Rattle.schedd_steps.proofs.Refused.{at_err, is_limit, limit_passed, no_bytes, no_ok, not_done, same_error, no_err}
+use Rattle.schedd_steps.proofs.UnfinishedDone.{logged_submission, plan_too_large, submission_too_large, grows_so, undone_so}
 use Rattle.schedd_steps.proofs.logged.take_logged.Goals as goal
 
 pub returns-in_err-what : goal.returns-in_err-what
@@ -53,3 +53,21 @@ pub returns-in_ok-log_submission-in-Submission-clause-logged : goal.returns-in_o
 returns-in_ok-log_submission-in-Submission-clause-logged c =
     logged_submission c.in_ok-what.field-0 c.in-Submission.cluster c.in-Submission.count c.args.state.now.pending c.args.state.now c.log_submission.new.state c.nothing_asked.result c.in-Submission.is c.in_ok-what.ensures
     c.in_ok-log_submission-in-Submission.ensures.pool c.nothing_asked.ensures
+
+pub log_submission-requires-clause-undo : goal.log_submission-requires-clause-undo
+log_submission-requires-clause-undo c = undone_so c.in_ok-what.field-0 c.args.state.now.pending c.args.state.now c.in_ok-what.ensures
+
+pub log_submission-requires-clause-growth : goal.log_submission-requires-clause-growth
+log_submission-requires-clause-growth c = grows_so c.in_ok-what.field-0 c.args.state.now.pending c.args.state.now c.in_ok-what.ensures
+
+pub log_plan-requires-clause-undo : goal.log_plan-requires-clause-undo
+log_plan-requires-clause-undo c = undone_so c.in_ok-what.field-0 c.args.state.now.pending c.args.state.now c.in_ok-what.ensures
+
+pub log_plan-requires-clause-growth : goal.log_plan-requires-clause-growth
+log_plan-requires-clause-growth c = grows_so c.in_ok-what.field-0 c.args.state.now.pending c.args.state.now c.in_ok-what.ensures
+
+pub returns-in_ok-log_submission-in-Submission-clause-large : goal.returns-in_ok-log_submission-in-Submission-clause-large
+returns-in_ok-log_submission-in-Submission-clause-large c = λ is. no_err _ error.Bytes is
+
+pub returns-in_ok-log_plan-in-Plan-clause-large : goal.returns-in_ok-log_plan-in-Plan-clause-large
+returns-in_ok-log_plan-in-Plan-clause-large c = λ is. no_err _ error.Bytes is

@@ -4,6 +4,7 @@ use Rattle.pool_parts.specs.declared.size.TheConstants.{MAX_BYTES}
 use Rattle.pool_tables.specs.declared.refusal.StepError.{StepError}
 use Rattle.pool_tables.specs.declared.refusal.StepError.TheVariants as error
 use Rattle.pool_steps.proofs.Posting.{receivable}
+use Rattle.schedd_steps.proofs.Received.{received_so}
 use Rattle.schedd_steps.proofs.Refused.{at_err, is_limit, limit_passed, no_bytes, no_err, no_ok, not_done, same_error}
 use Rattle.schedd_steps.proofs.TooLarge.{receipt_too_large}
 use Rattle.schedd_steps.proofs.schedd.receive_by_schedd.Goals as goal
@@ -44,3 +45,8 @@ returns-in_err-deed c =
 pub receive-requires : goal.receive-requires
 receive-requires c =
     receivable c.args.state.now.mails.sent c.in_ok-deed.deed.prepared.step.mails c.take_deed.new.state.mails.sent c.args.index (ap (λ (s : PoolState). s.mails.sent) c.in_ok-stepped.ensures.pool) c.requires
+
+pub returns-clause-received : goal.returns-clause-received
+returns-clause-received c =
+    received_so c.args.index c.args.known c.args.reading (slice_get c.args.state.now.mails.sent c.args.index) c.args.state.now c.take_deed.new.state c.in_ok-deed.deed c.receive.new.self c.in_ok-stepped.stepped
+    c.in_ok-deed.ensures.ready c.in_ok-stepped.ensures.pool c.receive.ensures c.in_ok-stepped.ensures.answer

@@ -8,6 +8,7 @@ use Rattle.schedd_state.specs.declared.prepared.PreparedSchedd.{PreparedSchedd}
 use Rattle.schedd_state.specs.PreparedSchedds.{schedd_after}
 use Rattle.schedd_core.specs.Ticks.{IsTicked}
 use Rattle.pool_rules.specs.Deeds.{schedd_acts}
+use Rattle.schedd_steps.proofs.DeedReady.{begun_for, bytes_for, claims_for}
 use Rattle.schedd_steps.proofs.Refused.{at_err, is_limit, limit_passed, no_bytes, no_err, no_ok, not_done, same_error}
 use Rattle.schedd_steps.proofs.TooLarge.{ticks_too_large}
 use Rattle.schedd_steps.proofs.schedd.tick_schedd.Goals as goal
@@ -72,3 +73,12 @@ returns-in_err-prepared c =
       refused = is_limit r memory;
       kept = at_err r refl;
     }
+
+pub take_deed-requires-clause-claims : goal.take_deed-requires-clause-claims
+take_deed-requires-clause-claims c = claims_for c.in_ok-prepared.prepared c.in_ok-deed.deed.prepared c.args.state.now.schedd c.in_ok-deed.ensures.prepared c.in_ok-prepared.ensures.room
+
+pub take_deed-requires-clause-begun : goal.take_deed-requires-clause-begun
+take_deed-requires-clause-begun c = begun_for c.in_ok-prepared.prepared c.in_ok-deed.deed.prepared c.args.state.now.next_tx c.in_ok-deed.deed.begun c.in_ok-deed.ensures.prepared c.in_ok-deed.ensures.begun
+
+pub take_deed-requires-clause-bytes : goal.take_deed-requires-clause-bytes
+take_deed-requires-clause-bytes c = bytes_for c.in_ok-prepared.prepared c.in_ok-deed.deed.prepared c.args.state.now.counts.bytes c.in_ok-deed.deed.bytes c.in_ok-deed.ensures.prepared c.in_ok-deed.ensures.bytes

@@ -6,7 +6,7 @@ use Rattle.pool_parts.specs.declared.pending.Pending.{Pending}
 use Rattle.pool_tables.specs.MailLists.{MailsValue}
 use Rattle.schedd_state.specs.declared.answer.ScheddStep.{ScheddStep}
 use Rattle.schedd_state.specs.Schedds.{ScheddValue}
-use Rattle.pool_rules.specs.Answers.{pending_by}
+use Rattle.pool_rules.specs.Answers.{pending_by, answer_with, answered}
 use Rattle.pool_rules.specs.Deeds.{posts, rested}
 use Rattle.pool_steps.proofs.Posting.{posted_all}
 use Rattle.schedd_steps.proofs.schedd.ScheddDeed.commit.Goals as goal
@@ -28,3 +28,6 @@ returns-clause-pool c =
     ∙ ap (λ (x : Option Pending). record old { schedd = v; mails = posts step.mails old.mails; counts = record old.counts { bytes = bytes }; pending = x; ordered = c.join.new.list }) begun
     ∙ ap (λ (x : List JobId). record old { schedd = v; mails = posts step.mails old.mails; counts = record old.counts { bytes = bytes }; pending = pending; ordered = x }) c.join.ensures
     ∙ ap (λ (x : ℕ). record old { schedd = v; mails = posts step.mails old.mails; counts = record old.counts { bytes = x }; pending = pending; ordered = old.ordered ++ c.args.self.ordered }) c.requires.bytes
+
+pub returns-clause-answer : goal.returns-clause-answer
+returns-clause-answer c = c.put_begun.ensures.answer ∙ ap (λ (o : Option Pending). answered (answer_with o)) c.requires.begun
