@@ -1,5 +1,5 @@
 -- Where parts stand by their digests, one attribute and one part more.
-use Rattle.std.proofs.Common.{◌≡◌, ℕ, zero, suc, ◌+◌, ◌%◌, ◌^◌, ◌<◌, ◌≤◌, List, [], ◌∷◌, ◌++◌, length, get_or, take, slice_get, Option, Some, None, Vec, refl, ap, sym, ◌∙◌, subst, inl, inr}
+use Rattle.std.proofs.Common.{◌≡◌, ℕ, false, zero, suc, ◌+◌, ◌%◌, ◌^◌, ◌<◌, ◌≤◌, List, [], ◌∷◌, ◌++◌, length, get_or, take, slice_get, Option, Some, None, Vec, refl, ap, sym, ◌∙◌, subst, inl, inr}
 use Rattle.std.specs.Prelude.{◌≢◌, ◌⊎◌, ◌↔◌, Bool, IsTrue, sum_by, Contains, MatchOption}
 use Rattle.std.specs.Borrow.{Bor}
 use Rattle.std.specs.Slice.{IsItemAt}
@@ -7,7 +7,8 @@ use Rattle.std.specs.List.{All}
 use Rattle.std.specs.Option.{option_map_or}
 use Rattle.std.specs.HashMap.{HashMap}
 use Rattle.std.proofs.Math.Nat.{mod-add-mod}
-use Rattle.std.proofs.lemmas.Option.{slice_get-get_or}
+use Rattle.std.proofs.lemmas.Bool.{true≢false}
+use Rattle.std.proofs.lemmas.Option.{slice_get-get_or, slice_get_past}
 use Rattle.std.proofs.lemmas.List.{take_all, take_more}
 use Rattle.std.proofs.lemmas.List.Sums.{sum_by_push}
 use Rattle.ad_value.specs.Content.{undefined}
@@ -43,6 +44,10 @@ stands [] part other (suc i) at = inl at
 stands (p ∷ parts) part other zero at = inl at
 stands (p ∷ parts) part other (suc i) at = elim (stands parts part other i at) [ inl h ↦ inl h | inr h ↦ inr (ap (λ n. suc n) h.0, h.1) ]
 
+-- where there are no parts yet
+pub none_found : {A S : Type 0} (places : HashMap ℕ (Vec ℕ A) S) (parts : List Attributes) → parts ≡ [] → AreFoundBy places parts
+none_found places parts none = subst (AreFoundBy places) (sym none) (λ i part at. let nothing : None ≡ Some part = at in cc)
+
 pub found_more : {A S : Type 0} (old new : HashMap ℕ (Vec ℕ A) S) (parts : List Attributes) (part : Attributes) → AreFoundBy old parts
     → ((d i : ℕ) → Contains (places_under old d) i → Contains (places_under new d) i)
     → Contains (places_under new (part_digest part)) (length parts) → AreFoundBy new (parts ++ part ∷ [])
@@ -75,6 +80,10 @@ pub lent_at : {A : Type 0} (xs : List A) (i : ℕ) (o : Option (Bor A)) (x : Bor
 lent_at xs i o x is e =
     let at : IsItemAt xs i (Some x) = subst (IsItemAt xs i) e is in
     slice_get-get_or xs i x.now at.3.0 ∙ ap (λ y. Some y) (sym at.1)
+
+-- past the end stands nothing
+pub nothing_there : {A : Type 0} (xs : List A) (i : ℕ) (y : A) → length xs ≤ i → (IsTrue false ↔ (slice_get xs i ≡ Some y))
+nothing_there xs i y past = (λ t. absurd (true≢false (sym t)), λ at. let nothing : None ≡ Some y = sym (slice_get_past xs i past) ∙ at in cc)
 
 pub stands_by : {A : Type 0} (b : Bool) (o : Option A) (x y : A) → o ≡ Some x → (IsTrue b ↔ (x ≡ y)) → (IsTrue b ↔ (o ≡ Some y))
 stands_by b o x y e h = (λ t. e ∙ ap (λ z. Some z) (h.0 t), λ s. h.1 (some_is (sym e ∙ s)))

@@ -6,4 +6,5 @@ mod Members
 mod Named
 mod Places
 mod Reaches
+mod Referring
 mod Under

@@ -1,5 +1,5 @@
 -- The attributes of an ad whose names are among some, and those of a job.
-use Rattle.std.proofs.Common.{◌≡◌, ℕ, zero, suc, ◌+◌, ◌<◌, ◌≤◌, ◌||◌, Bool, true, false, cond, List, [], ◌∷◌, ◌++◌, length, take, drop, get_or, Some, None, refl, ap, sym, ◌∙◌, subst, arith, append_assoc, append-nil, inl, inr, Ok, Err}
+use Rattle.std.proofs.Common.{◌≡◌, ℕ, zero, suc, ◌+◌, ◌<◌, ◌≤◌, ◌||◌, Bool, true, false, cond, List, [], ◌∷◌, ◌++◌, length, take, drop, get_or, Option, Some, None, refl, ap, sym, ◌∙◌, subst, arith, append_assoc, append-nil, inl, inr, Ok, Err}
 use Rattle.std.specs.Prelude.{slice_get, ◌↔◌, ◌≢◌, Result, IfOk}
 use Rattle.std.specs.List.{list_any, filter, All}
 use Rattle.std.proofs.lemmas.List.{drop_more, drop_all, take_all, take_more, map-append}
@@ -88,6 +88,10 @@ pub all_named : (xs : List (List ℕ)) (job part : Attributes) (i : ℕ) → len
 all_named xs job part i le e =
     e ∙ ap (λ l. filter (λ a. is_among xs a.0) (take i job) ++ l) (drop_all i job le) ∙ append-nil _ ∙ ap (filter (λ a. is_among xs a.0)) (take_all i job le)
 
+-- where there is no attribute, none is taken out
+pub none_taken : (xs : List (List ℕ)) (before : Attributes) (o : Option (List ℕ × Tree)) → None ≡ o → before ≡ kept_named xs before o
+none_taken xs before o is = ap (kept_named xs before) is
+
 -- ---- the significant attributes
 
 or_comm : (a b : Bool) → (a || b) ≡ (b || a)
@@ -108,6 +112,9 @@ is_part slots job part given first list xs links same more reach e = record {
     linked y z = more y z ∙ ap (λ b. b || leads_to y z job) (ap (λ ls. is_linked ls y z) same ∙ links y z) ∙ or_comm (list_any (leads_to y z) slots) (leads_to y z job)
 
 -- ---- a new autocluster
+
+pub none_apart : (parts : List Attributes) → parts ≡ [] → AreClusters parts
+none_apart parts none = subst AreClusters (sym none) (λ i j d before less same. let beyond : j < 0 = less in omega arith)
 
 pub one_cluster : (parts later : List Attributes) (part : Attributes) → AreClusters parts → All (λ p. p ≢ part) parts → later ≡ parts ++ part ∷ [] → AreClusters later
 one_cluster parts later part pairs all e = subst AreClusters (sym e) (all_pairs_push (λ (p q : Attributes). p ≢ q) parts part pairs (λ k d lt. all k d lt))
