@@ -1,15 +1,39 @@
 -- The loops over slots that are lent: one more slot judged, one more looked at.
-use Rattle.std.proofs.Common.{◌≡◌, ℕ, ◌+◌, ◌<◌, ◌≤◌, List, [], ◌∷◌, ◌++◌, length, get_or, take, drop, Bool, true, false, refl, sym, ap, ◌∙◌, Option, Some, None, subst}
+use Rattle.std.proofs.Common.{◌≡◌, ℕ, ℤ, ◌+◌, ◌<◌, ◌≤◌, List, [], ◌∷◌, ◌++◌, length, get_or, take, drop, ◌&&◌, Bool, true, false, refl, sym, ap, ◌∙◌, Option, Some, None, subst}
 use Rattle.std.specs.Prelude.{if◌then◌else◌, option_map}
 use Rattle.std.specs.List.{filter}
 use Rattle.std.proofs.lemmas.List.{map-append, drop_more, drop_all, take_all}
-use Rattle.matchmaker.specs.Cycle.{Ranked, ranked_for}
+use Rattle.matchmaker.specs.Cycle.{Ranked, is_unmatched, ranked_for}
+use Rattle.matchmaker.specs.Offers.{fits, rank_of_slot}
 use Rattle.negotiate.specs.Grouped.{fits_now, list_for, ranked, all_ranked, first_kept, best_kept, better_kept}
 use Rattle.negotiate.proofs.KeptLists.{list_yes, list_no, list_none, one, last}
 use Rattle.pool_mail.specs.declared.matching.Request.{Request}
 use Rattle.negotiate.specs.declared.grouping.Kept.{Kept}
 use Rattle.matchmaker.specs.declared.snapshot.Offer.{Offer}
 use Rattle.matchmaker.specs.declared.course.Made.{Made}
+
+-- ---- one slot that is judged
+module _ (now : ℕ) (made : List Made) (r : Request) (slot : Offer) where
+  abbrev told_of : Bool → Option Ranked
+  told_of b = if b then Some (ranked_for now r slot) else None
+
+  told_at : (u b : Bool) → u ≡ is_unmatched made slot → b ≡ fits now r slot → told_of (u && b) ≡ (if fits_now now made r slot then Some (ranked_for now r slot) else None)
+  unfolding fits_now
+  told_at u b e f = λ i. told_of (e i && f i)
+
+  pub matched_not_kept : (u : Bool) → u ≡ is_unmatched made slot → u ≡ false → None ≡ (if fits_now now made r slot then Some (ranked_for now r slot) else None)
+  matched_not_kept u e t = told_at false (fits now r slot) (sym t ∙ e) refl
+
+  pub unfit_not_kept : (u b : Bool) → u ≡ is_unmatched made slot → u ≡ true → b ≡ fits now r slot → b ≡ false → None ≡ (if fits_now now made r slot then Some (ranked_for now r slot) else None)
+  unfit_not_kept u b e t f unfit = told_at true false (sym t ∙ e) (sym unfit ∙ f)
+
+  pub fit_kept : (u b : Bool) (rank : ℤ) → u ≡ is_unmatched made slot → u ≡ true → b ≡ fits now r slot → b ≡ true → rank ≡ rank_of_slot now r slot
+      → Some (record { slot = slot; rank = rank }) ≡ (if fits_now now made r slot then Some (ranked_for now r slot) else None)
+  fit_kept u b rank e t f fit is =
+      let kept : ℤ → Option Ranked = λ n. Some (record { slot = slot; rank = n }) in
+      ap kept is ∙ told_at true true (sym t ∙ e) (sym fit ∙ f)
+
+-- ---- the loop that judges
 
 abbrev Tells : ℕ → List Made → Request → Offer → Option Kept → Type 0
 Tells now made r slot o = option_map ranked o ≡ (if fits_now now made r slot then Some (ranked_for now r slot) else None)

@@ -6,6 +6,7 @@ pub mod ListTables
 pub mod Members
 pub mod Numbering
 pub mod PartyTurns
+pub mod Playing
 pub mod QuickCycles
 pub mod Settling
 pub mod Snapshots

@@ -1,12 +1,12 @@
 -- A submitter's lists: what is known of them stays known.
-use Rattle.std.proofs.Common.{◌≡◌, ℕ, ◌+◌, ◌-◌, ◌*◌, ◌<◌, ◌≤◌, List, [], ◌∷◌, ◌++◌, length, get_or, set, true, false, not, cond, refl, sym, ap, ◌∙◌, arith, Option, Some, None, subst, inl, inr}
+use Rattle.std.proofs.Common.{◌≡◌, ℕ, ◌+◌, ◌-◌, ◌*◌, ◌<◌, ◌≤◌, List, [], ◌∷◌, ◌++◌, length, get_or, set, true, false, not, cond, refl, sym, ap, ◌∙◌, arith, Option, Some, None, Result, IfOk, subst, inl, inr}
 use Rattle.std.specs.Prelude.{Bool, Vec, Contains, option_copied}
 use Rattle.std.specs.Borrow.{Bor}
 use Rattle.std.specs.Global.{Global}
 use Rattle.std.specs.List.{sum_by}
 use Rattle.std.specs.Option.{is_some}
 use Rattle.std.proofs.lemmas.Bool.{cases_eq, false≢true}
-use Rattle.std.proofs.lemmas.List.{get_or-set_same, get_or-set_other, length-set}
+use Rattle.std.proofs.lemmas.List.{get_or-set_same, get_or-set_other, get_or_default, length-set}
 use Rattle.std.proofs.lemmas.List.Sums.{sum_by-set}
 use Rattle.matchmaker.specs.Cycle.{choice, turn, match_of, Ranked}
 use Rattle.negotiate.specs.Grouped.{Alike, Lists, list_for, Serves, Tables, Seen, CostsLists, unjudged, choice_in, all_ranked}
@@ -128,6 +128,20 @@ seen_choice snap made u r old new xs o e within serves (inl p) h =
 seen_choice snap made u r old new xs o e within serves (inr p) h =
     h p.0 (ap (λ (l : Lists). get_or l r.cluster None) (e ∙ p.3) ∙ get_or-set_same old r.cluster (Some p.0) None within)
     ∙ serve_choice snap u made r.request (all_ranked p.0.items) (fresh_of snap made r p.0 p.2)
+
+-- what is at a number is the list that is there
+listed : (xs : Lists) (i : ℕ) (o : Option (Vec Kept Global)) (v : Vec Kept Global) → i < length xs → o ≡ get_or xs i o → get_or xs i None ≡ Some v → o ≡ Some v
+listed xs i o v h e there = e ∙ get_or_default xs i o None h ∙ there
+
+pub none_listed : {P : Type 0} (xs : Lists) (i : ℕ) (o : Option (Vec Kept Global)) (v : Vec Kept Global) → i < length xs → o ≡ get_or xs i o → o ≡ None → get_or xs i None ≡ Some v → P
+none_listed xs i o v h e none there = let no : None ≡ Some v = sym none ∙ listed xs i o v h e there in cc
+
+pub chosen_of : {E : Type 0} (snap : Snapshot) (u : Account) (made : List Made) (q : Request) (xs : Lists) (i : ℕ) (o : Option (Vec Kept Global)) (list v : Vec Kept Global) (items : List Kept) (r : Result (Option (Bor Offer)) E) → i < length xs → o ≡ get_or xs i o → o ≡ Some list → items ≡ list.items
+    → get_or xs i None ≡ Some v → IfOk r (λ c. option_copied c ≡ choice_in snap u made q (all_ranked items)) → IfOk r (λ c. option_copied c ≡ choice_in snap u made q (all_ranked v.items))
+chosen_of snap u made q xs i o list v items r h e some same there told =
+    let one : Some list ≡ Some v = sym some ∙ listed xs i o v h e there in
+    let list_is : list ≡ v = cc in
+    subst (λ (l : List Kept). IfOk r (λ c. option_copied c ≡ choice_in snap u made q (all_ranked l))) (same ∙ ap (λ (w : Vec Kept Global). w.items) list_is) told
 
 pub Costs-refl : (n : ℕ) (lists : Lists) (before : ℕ) → CostsLists n lists lists before before
 Costs-refl n lists before = omega arith

@@ -37,7 +37,6 @@ pub struct Clustered {
 pub(crate) type Lists<'a> = Vec<Option<Vec<Kept<'a>>>>;
 
 // What a list keeps of a slot: nothing where a match names it, and then it is not judged.
-#[tactic(auto, unfolding(crate::specs::Grouped::fits_now))]
 fn kept_now<'a, L: Ledger>(
     alloc: Global,
     snapshot: &Snapshot,

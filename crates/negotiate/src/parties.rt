@@ -26,7 +26,6 @@ pub struct Party<'a> {
     pub lists: Lists<'a>,
 }
 
-#[tactic(auto, unfolding(matchmaker::specs::Cycle::takes_part, matchmaker::specs::Cycle::has_left))]
 fn takes_part(party: &Party<'_>, made: &[Made]) -> bool
     ensures { result ≡ cycle.takes_part made.now (those.bidder_of party.now) }
 {

@@ -11,3 +11,6 @@ returns-clause-seen g c = seen_now c.args.snapshot.now c.args.made.now c.args.re
 pub returns-clause-cost : goal.returns-clause-cost
 returns-clause-cost g c = cost_now c.args.request.now _ c.args.lists.now.items _ c.in_ok-list.list _ _ _ _ c.requires c.deref.ensures.value c.has_list.ensures c.if-has_list.false
     c.put.ensures c.in_ok-list.ensures.cost
+
+pub put-requires : goal.put-requires
+put-requires g c = c.requires

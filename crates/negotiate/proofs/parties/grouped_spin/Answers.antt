@@ -46,3 +46,6 @@ returns-clause-spun g c =
     sym (spin_end bidder_of c.args.snapshot.now (share c.unmatched-total.result c.weights-weights.result) c.loop-party.least c.loop-party.parties c.loop-party.party-index c.loop-party.made.items h)
     ∙ (c.loop-party.invariant.rest
     ∙ spin_is bidder_of c.args.snapshot.now c.args.parties.now c.args.made.now.items c.unmatched-total.result c.weights-weights.result (cc) c.weights-weights.ensures.sum)
+
+pub weights-weights-requires-clause-positive : goal.weights-weights-requires-clause-positive
+weights-weights-requires-clause-positive g c = c.requires.positive

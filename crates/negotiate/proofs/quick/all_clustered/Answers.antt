@@ -1,4 +1,6 @@
-use Rattle.std.proofs.Common.{◌≡◌, [], rules}
+use Rattle.std.proofs.Common.{◌≡◌, ◌∙◌, [], sym}
+use Rattle.std.proofs.lemmas.List.{nil_from_length}
+use Rattle.negotiate.proofs.Members.{one_fewer}
 use Rattle.negotiate.proofs.Numbering.{numbering_begin, numbering_more, numbering_all}
 use Rattle.negotiate.proofs.quick.all_clustered.Goals as goal
 
@@ -12,8 +14,11 @@ loop-request-preserved c =
 
 pub returns-clause-same : goal.returns-clause-same
 returns-clause-same c =
-    let empty : c.loop-request.requests.items ≡ [] = search rules in
+    let empty : c.loop-request.requests.items ≡ [] = nil_from_length c.loop-request.requests.items (sym c.loop-request.requests.ok.0 ∙ c.in_default.ensures.cases.0) in
     numbering_all c.args.clusters.now.slots c.args.requests.items c.loop-request.requests.items c.loop-request.left.items c.loop-request.clusters c.loop-request.invariant empty
 
 pub returns-clause-clustered : goal.returns-clause-clustered
 returns-clause-clustered c = c.loop-request.invariant.clustered
+
+pub loop-request-smaller : goal.loop-request-smaller
+loop-request-smaller c = one_fewer c.loop-request.requests.items c.pop_front.new.self.items c.in-Some.request c.in-Some.ensures.items
