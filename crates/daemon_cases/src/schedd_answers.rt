@@ -1,5 +1,5 @@
 use cases::{CaseError, escape};
-use daemon_fields::write_mails;
+use daemon_mails::write_mails;
 use queue_record::{PrintError, print_tx};
 use queue_tx::Tx;
 use schedd_plan::JobPlan;

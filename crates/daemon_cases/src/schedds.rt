@@ -4,7 +4,7 @@ use crate::settings::settings_of;
 use ad_value::Memory;
 use cases::{Case, CaseError};
 use claim_id::JobId;
-use daemon_fields::mail_of;
+use daemon_mails::mail_of;
 use daemon_texts::read_job;
 use pool_mail::{Mail, Settings};
 use schedd_core::{check, logged, receive, reopen, tick};

@@ -4,8 +4,10 @@ use ad_tree::Ad;
 use ad_value::{Memory, Text};
 use cases::{Case, CaseError};
 use claim_id::SlotId;
-use daemon_fields::{mail_of, read_ad, write_launch, write_mails, write_runs};
-use daemon_texts::{interval_of, read_end, read_run, seconds_of, write_job, write_run};
+use daemon_mails::{mail_of, write_launch, write_mails};
+use daemon_texts::{
+    interval_of, read_ad, read_end, read_run, seconds_of, write_job, write_run, write_runs,
+};
 use pool_mail::{Ending, Mail, Settings};
 use startd_core::{Permit, Startd, StartdAnswer, StartdStep, is_tick_tried};
 use std::alloc::{AllocError, Global};

@@ -1,1 +1,2 @@
 mod ClaimNumbers
+pub mod TabLemmas

@@ -2,8 +2,8 @@
 
 use cases::escape;
 use claim_id::{JobId, RunNo};
-use daemon_fields::{write_launch, write_runs};
-use daemon_texts::{write_job, write_run};
+use daemon_mails::write_launch;
+use daemon_texts::{write_job, write_run, write_runs};
 use pool_outer::Launch;
 use pool_parts::Answer;
 use queue_record::{PrintError, print_tx};

@@ -1,7 +1,7 @@
 // What a pool offers, and what it asks for.
 
 ghost use Rattle.std.specs.Prelude.{◌≡◌, ◌++◌, OnOk, string_bytes};
-ghost use Rattle.daemon_fields.specs.ListTexts.{behind_tabs};
+ghost use Rattle.daemon_texts.specs.ListTexts.{behind_tabs};
 ghost use Rattle.claim_id.specs.Texts.{job_text};
 
 use crate::refusals::write_slot;

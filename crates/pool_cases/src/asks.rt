@@ -3,7 +3,7 @@
 use crate::outcome::written;
 use ad_value::{Copied, Memory};
 use cases::{Case, CaseError};
-use daemon_fields::Fields;
+use daemon_texts::Fields;
 use pool_answers::{write_look, write_requests, write_view};
 use pool_core::Pool;
 use pool_view::View;

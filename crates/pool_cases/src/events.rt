@@ -13,7 +13,7 @@ use ad_tree::{Ad, AdList, Expr, SetError};
 use ad_value::names::job::PROC_ID;
 use ad_value::{Copied, Memory, Value};
 use cases::{Case, CaseError};
-use daemon_fields::Fields;
+use daemon_texts::Fields;
 use pool_parts::Event;
 use queue_tx::{JobKind, Tx, kind_of};
 use std::alloc::Global;

@@ -11,7 +11,7 @@ use ad_tree::{Ad, AdList};
 use ad_value::{Copied, Memory};
 use cases::{Case, CaseError};
 use claim_id::{ClaimId, JobId, SlotId};
-use daemon_fields::{Fields, slot_id_of};
+use daemon_texts::{Fields, slot_id_of};
 use pool_core::Pool;
 use pool_mail::{Mail, Match, MatchList, Request, SlotAd};
 use pool_outer::Daemon;

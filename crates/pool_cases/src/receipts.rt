@@ -8,7 +8,7 @@ ghost use Rattle.pool_state.specs.declared.state.PoolState.{PoolState};
 use crate::rolls::Rolls;
 use ad_value::Memory;
 use cases::CaseError;
-use daemon_fields::Fields;
+use daemon_texts::Fields;
 use pool_mail::Ending;
 use pool_outer::Daemon;
 use pool_parts::{EndingReceipts, Event};

@@ -6,7 +6,7 @@ use crate::outcome::memory;
 use ad_value::{Seq, Text};
 use cases::{Case, CaseError};
 use claim_id::{Pair, SlotId, Wish};
-use daemon_fields::Fields;
+use daemon_texts::Fields;
 use pool_mail::{Ending, Settings, SlotAd, SlotAdList};
 use pool_outer::Daemon;
 use pool_parts::Allow;

@@ -1,7 +1,7 @@
 // How long events took.
 
 use cases::{Case, CaseError};
-use daemon_fields::Fields;
+use daemon_texts::Fields;
 use pool_outer::Daemon;
 use pool_parts::{Event, Kept};
 use std::alloc::AllocError;

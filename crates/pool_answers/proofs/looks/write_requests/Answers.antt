@@ -1,7 +1,7 @@
 use Rattle.std.proofs.Common.{◌++◌, ◌∙◌, ap, string_bytes}
 use lib.Utf8.{encode}
 use Rattle.claim_id.specs.Texts.{job_text}
-use Rattle.daemon_fields.proofs.TabLemmas.{one_more_behind_tab}
+use Rattle.daemon_texts.proofs.TabLemmas.{one_more_behind_tab}
 use Rattle.pool_answers.proofs.looks.write_requests.Goals as goal
 
 pub loop-request-preserved : goal.loop-request-preserved

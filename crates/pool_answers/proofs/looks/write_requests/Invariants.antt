@@ -1,7 +1,7 @@
 -- The jobs of the requests so far are written.
 use Rattle.std.proofs.Common.{◌≡◌, ◌++◌, string_bytes, take}
 use Rattle.claim_id.specs.Texts.{job_text}
-use Rattle.daemon_fields.specs.ListTexts.{behind_tabs}
+use Rattle.daemon_texts.specs.ListTexts.{behind_tabs}
 use Rattle.pool_answers.proofs.looks.write_requests.Given as goal
 
 abbrev pub invariant-loop-request : goal.invariant-loop-request

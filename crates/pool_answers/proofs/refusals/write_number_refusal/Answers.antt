@@ -1,6 +1,7 @@
 use Rattle.std.proofs.Common.{codes, decimal}
 use Rattle.pool_answers.specs.RefusalTexts.{refusal_text}
-use Rattle.pool_answers.proofs.TextLemmas.{after_mark, known}
+use Rattle.daemon_mails.proofs.TextLemmas.{known}
+use Rattle.pool_answers.proofs.TextLemmas.{after_mark}
 use Rattle.pool_answers.proofs.refusals.write_number_refusal.Goals as goal
 
 pub returns-in-OldBoot : goal.returns-in-OldBoot

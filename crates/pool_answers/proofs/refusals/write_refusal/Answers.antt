@@ -1,6 +1,6 @@
 use Rattle.std.proofs.Common.{codes, string_bytes}
 use Rattle.pool_answers.specs.RefusalTexts.{refusal_text}
-use Rattle.pool_answers.proofs.TextLemmas.{known, pushed, two_added}
+use Rattle.daemon_mails.proofs.TextLemmas.{known, pushed, two_added}
 use Rattle.pool_answers.proofs.refusals.write_refusal.Goals as goal
 
 pub returns-in_ok-push_str-in-AdMoved : goal.returns-in_ok-push_str-in-AdMoved

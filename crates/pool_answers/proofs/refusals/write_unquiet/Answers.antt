@@ -1,5 +1,5 @@
 use Rattle.pool_answers.specs.RefusalTexts.{unquiet_text}
-use Rattle.pool_answers.proofs.TextLemmas.{known, two_added}
+use Rattle.daemon_mails.proofs.TextLemmas.{known, two_added}
 use Rattle.pool_answers.proofs.refusals.write_unquiet.Goals as goal
 
 pub returns-in-Down : goal.returns-in-Down

@@ -1,2 +1,0 @@
-pub mod TabLemmas
-mod TextLemmas

@@ -1,3 +1,0 @@
-pub mod ListTexts
-pub mod MailTexts
-pub mod SlotFields
