@@ -42,14 +42,14 @@ impl Model for Judged {
 }
 
 impl Judged {
-    /// A copy of the job's ad. Computes in O(1).
+    /// The job's ad. Computes in O(1).
     pub fn job(&self) -> &Ad
         ensures { result.now ≡ self.now.job }
     {
         &self.job
     }
 
-    /// A copy of the slot's ad. Computes in O(1).
+    /// The slot's ad. Computes in O(1).
     pub fn slot(&self) -> &Ad
         ensures { result.now ≡ self.now.slot }
     {

@@ -30,7 +30,7 @@ fn main(rt: HostRuntime) -> ExitCode {
     ExitCode::from(status.number())
 }
 
-// Runs a pool on the parts of the system. The first handle may wait. That the words are of no form
+// Runs a pool on the parts of the system. The first handle may wait. That the words are malformed
 // is said, unless memory runs out before.
 fn run<R: Threads + Wait + Sync + Clock>(
     rt: &R,

@@ -14,7 +14,7 @@ pub enum Kind {
     Missing,
     /// It isn't UTF-8.
     NotText,
-    /// A line of no form.
+    /// A malformed line.
     BadLine,
     /// A configuration sets a name that there isn't.
     Unknown,
@@ -60,7 +60,7 @@ pub enum Status {
 }
 
 impl Status {
-    /// How a program ends whose words can't be had: a word that isn't UTF-8 is of no form. Computes
+    /// How a program ends whose words can't be had: a word that isn't UTF-8 is malformed. Computes
     /// in O(1).
     pub fn of_unread_words(error: &io::Error) -> Status
         ensures { (result ≡ Status.Usage) ⊎ (result ≡ Status.Memory) }

@@ -10,7 +10,7 @@ pub const MAX_JOBS: usize = 10_000;
 /// Why a submit file is refused, at which line, from 1.
 #[derive(Drop, Error)]
 pub enum SubmitError {
-    /// A line of no form, or arguments whose quotes are not closed.
+    /// A malformed line, or arguments whose quotes are not closed.
     #[error("line {line}: not a line of a submit file")]
     BadLine { line: u32 },
     /// A command that this pool has no use for.

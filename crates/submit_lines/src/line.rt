@@ -21,7 +21,7 @@ pub enum SubmitLine<'a> {
 /// Why a line is refused.
 #[derive(Clone, Copy, Error)]
 pub enum LineFault {
-    /// It is of no form, or it sets an attribute that is the pool's own.
+    /// It is malformed, or it sets an attribute that is the pool's own.
     #[error("not a line of a submit file")]
     Bad,
     /// It sets a command that this pool has no use for.
@@ -110,7 +110,7 @@ fn plain_line<'a>(name: &'a str, value: &'a str) -> Result<SubmitLine<'a>, LineF
     Ok(SubmitLine::Setting { name, value })
 }
 
-// A line without a sign is a queue statement, or of no form.
+// A line without a sign is a queue statement, or malformed.
 fn queue_line<'a>(name: &str, text: &'a str) -> Result<SubmitLine<'a>, LineFault>
     ensures { line_result_of result ≡ queue_line name.now text.now }
 {
