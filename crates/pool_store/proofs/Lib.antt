@@ -2,6 +2,7 @@ pub mod BootLines
 pub mod Changes
 pub mod Finds
 pub mod Largest
+pub mod Moments
 pub mod Moves
 pub mod Names
 pub mod Newlines

@@ -1,17 +1,21 @@
 //! Stores: files in memory, of which a test knows every image that a stop may leave, and files of
-//! the system.
+//! the system. Changes of one file of a store that are solid once they are answered by `Ok`.
 //!
 //! The file of boots: the numbers of a pool's boots, one a line.
 #![tactic(auto)]
 
+mod append;
 mod boots;
+mod cut;
 mod disk;
 mod error;
 pub mod laws;
 mod line;
 mod memory;
 
+pub use append::append_solid;
 pub use boots::{Boots, LAST_BOOT, read_boots};
+pub use cut::cut_after;
 pub use disk::DiskStore;
 pub use error::BootError;
 pub use line::boot_line;

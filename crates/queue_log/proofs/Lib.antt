@@ -1,5 +1,4 @@
 pub mod Beyond
-pub mod Moments
 pub mod NewLog
 pub mod Opened
 pub mod Pieces

@@ -1,8 +1,8 @@
 -- What a stop while a log is recovered leaves of its file.
 use Rattle.std.proofs.Common.{◌≡◌, ◌⊎◌, inl, inr, ℕ, ◌≤◌, List, [], ◌∷◌, ◌++◌, length, take, None, refl, ap, sym, ◌∙◌, subst, arith}
 use Rattle.pool_outer.specs.Files.{Contents, Images, Lengths, Leaves, IsImage, bytes_in}
-use Rattle.queue_log.specs.Moments.{IsReached, KeepsFile, LeavesOnly}
-use Rattle.queue_log.proofs.Moments.{joins, leaves_fewer, weaker}
+use Rattle.pool_store.specs.Moments.{IsReached, KeepsFile, LeavesOnly}
+use Rattle.pool_store.proofs.Moments.{joins, leaves_fewer, weaker}
 use Rattle.queue_tx.specs.Queues.{KeyedAds}
 use Rattle.queue_record.specs.ReadSoFar.{start, fed}
 use Rattle.queue_log.specs.Logs.{IsUncut, LeavesOpening, StandsForOpening}

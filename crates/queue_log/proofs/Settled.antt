@@ -4,7 +4,7 @@ use Rattle.std.specs.Str.{IsUtf8}
 use Rattle.std.proofs.lemmas.Bool.{leb-true, leb-false}
 use Rattle.std.proofs.lemmas.Str.{IsUtf8-take, IsUtf8-drop, IsCharBoundary-before_ascii, IsCharBoundary-after_ascii}
 use Rattle.pool_outer.specs.Files.{IsImage, bytes_in}
-use Rattle.queue_log.specs.Moments.{IsReached}
+use Rattle.pool_store.specs.Moments.{IsReached}
 use Rattle.queue_tx.specs.Operations.{Operation}
 use Rattle.queue_tx.specs.Queues.{KeyedAds, queue_after}
 use Rattle.queue_record.specs.ReadSoFar.{start, fed}

@@ -2,7 +2,6 @@ pub mod Errors
 pub mod Files
 pub mod Logged
 pub mod Logs
-pub mod Moments
 pub mod NewLog
 pub mod Reattaching
 pub mod Stands

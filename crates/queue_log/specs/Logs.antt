@@ -5,7 +5,7 @@ use Rattle.pool_outer.specs.Files.{Contents, Images, Lengths, Leaves, bytes_in}
 use Rattle.pool_outer.specs.declared.limit.Which.TheVariants.{LogLine, Roll}
 use Rattle.receipt_roll.specs.declared.roll.TheConstants.{MAX_ITEMS}
 use Rattle.receipt_roll.specs.Values.{RollMark, ReceiptValue}
-use Rattle.queue_log.specs.Moments.{LeavesOnly}
+use Rattle.pool_store.specs.Moments.{LeavesOnly}
 use Rattle.queue_tx.specs.Operations.{Operation}
 use Rattle.queue_tx.specs.Printable.{IsPrintable}
 use Rattle.queue_tx.specs.Queues.{KeyedAds, queue_after}

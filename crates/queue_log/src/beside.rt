@@ -1,12 +1,12 @@
 ghost use Rattle.std.specs.Prelude.{◌≡◌, ◌≢◌, ◌++◌, ℕ, List, true, IfErr, OnOk};
 ghost use Rattle.pool_outer.specs.Files.{bytes_in, Leaves, SameOthers};
-ghost use Rattle.queue_log.specs.Moments.{LeavesOnly};
+ghost use Rattle.pool_store.specs.Moments.{LeavesOnly};
 ghost use Rattle.queue_log.specs.Logs.{IsBesideRefused};
 
-use crate::append_solid;
 use crate::error::LogError;
 use crate::log::Log;
 use pool_outer::Store;
+use pool_store::append_solid;
 use std::alloc::Global;
 
 impl<D: Store> Log<D> {

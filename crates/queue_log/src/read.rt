@@ -4,7 +4,7 @@ ghost use Rattle.std.specs.Prelude.{◌≡◌, ◌≤◌, ◌<◌, ◌^◌, ℕ,
 ghost use Rattle.std.specs.Option.{option_map};
 ghost use Rattle.pool_outer.specs.Files.{bytes_in};
 ghost use Rattle.queue_record.specs.ReadSoFar.{start, fed};
-ghost use Rattle.queue_log.specs.Moments.{KeepsFile};
+ghost use Rattle.pool_store.specs.Moments.{KeepsFile};
 ghost use Rattle.queue_log.specs.Files.{IsReadOf, IsReadRefusal, IsSound, MeetsBadLine};
 ghost use Rattle.queue_log.specs.Logged.{IsLogged};
 ghost use Rattle.queue_log.specs.Stands.{bad_line};

@@ -3,7 +3,7 @@
 ghost use Rattle.std.specs.Prelude.{◌≡◌, ◌⊎◌, ◌<◌, ◌≤◌, ◌^◌, ℕ, List, true, None, Some, length, IfOk, IfErr, IfSome, OnOk, OnErr};
 ghost use Rattle.std.specs.Option.{option_map};
 ghost use Rattle.pool_outer.specs.Files.{bytes_in, Leaves};
-ghost use Rattle.queue_log.specs.Moments.{KeepsFile, LeavesOnly};
+ghost use Rattle.pool_store.specs.Moments.{KeepsFile, LeavesOnly};
 ghost use Rattle.receipt_roll.specs.declared.roll.TheConstants.{MAX_ITEMS};
 ghost use Rattle.queue_log.specs.Files.{IsReadOf, IsReadRefusal};
 ghost use Rattle.queue_log.specs.Logged.{IsLogged, IsNext};
@@ -11,12 +11,12 @@ ghost use Rattle.queue_log.specs.Logs.{StandsDurably, StandsForLog};
 ghost use Rattle.queue_log.specs.Reattaching.{IsFound, IsReattached, IsReattachRefused, IsReread, IsRereadRefused};
 ghost use Rattle.queue_log.specs.Stands.{bad_line};
 
-use crate::cut_behind;
 use crate::error::LogError;
 use crate::log::Log;
 use crate::logged::{Logged, More};
 use crate::read::read_log;
 use pool_outer::Store;
+use pool_store::cut_after;
 use queue_record::ReadLog;
 use queue_tx::Tx;
 use receipt_roll::Receipt;
@@ -125,7 +125,7 @@ fn reread<D: Store>(
         Ok(more) => more,
         Err(error) => return Err(error),
     };
-    match cut_behind(alloc, store, name, size, whole) {
+    match cut_after(alloc, store, name, size, whole) {
         Ok(()) => Ok(more),
         Err(error) => Err(LogError::from(error)),
     }

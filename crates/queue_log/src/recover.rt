@@ -2,7 +2,7 @@ ghost use Rattle.std.specs.Prelude.{◌≡◌, ◌<◌, ◌≤◌, ℕ, List, tr
 ghost use Rattle.std.specs.Option.{option_map};
 ghost use Rattle.pool_outer.specs.declared.clock.TheConstants.{LAST_READING};
 ghost use Rattle.pool_outer.specs.Files.{bytes_in};
-ghost use Rattle.queue_log.specs.Moments.{LeavesOnly};
+ghost use Rattle.pool_store.specs.Moments.{LeavesOnly};
 ghost use Rattle.queue_log.specs.Logged.{IsLogged, IsTooMany};
 ghost use Rattle.queue_log.specs.NewLog.{new_log_text};
 ghost use Rattle.queue_log.specs.Logs.{IsBegun, IsOpened, IsRecovered, IsRecoverRefused, IsUncut, LeavesOpening, StandsForOpening, recovered_store};
@@ -12,9 +12,9 @@ use crate::log::Log;
 use crate::logged::Logged;
 use crate::new_log::new_log;
 use crate::read::read_log;
-use crate::{append_solid, cut_behind};
 use ad_value::Text;
 use pool_outer::{Store, StoreError};
+use pool_store::{append_solid, cut_after};
 use queue_record::ReadLog;
 use queue_tx::{Queue, TxList};
 use std::alloc::Global;
@@ -171,7 +171,7 @@ fn resume<D: Store>(
         Ok(opening) => opening,
         Err(error) => return Err(error),
     };
-    match cut_behind(alloc, store, name, size, whole) {
+    match cut_after(alloc, store, name, size, whole) {
         Ok(()) => Ok(opening),
         Err(error) => Err(LogError::from(error)),
     }

@@ -1,8 +1,8 @@
 use Rattle.std.proofs.Common.{◌≡◌, ◌∙◌, ◌++◌, List, ℕ, arith, ap, subst, take}
 use Rattle.std.specs.Str.{IsUtf8}
 use Rattle.pool_outer.specs.Files.{bytes_in}
-use Rattle.queue_log.specs.Moments.{IsReached, LeavesOnly}
-use Rattle.queue_log.proofs.Moments.{weaker}
+use Rattle.pool_store.specs.Moments.{IsReached, LeavesOnly}
+use Rattle.pool_store.proofs.Moments.{weaker}
 use Rattle.queue_record.specs.Texts.{tx_text}
 use Rattle.queue_log.specs.Logs.{IsPending}
 use Rattle.queue_log.specs.Stands.{IsBeforeOrAfter}

@@ -1,7 +1,7 @@
 use Rattle.std.proofs.Common.{◌≡◌, ◌∙◌, true, Some, ap, sym, subst, arith}
 use Rattle.pool_outer.specs.Files.{bytes_in}
 use Rattle.queue_record.specs.ReadSoFar.{ReadSoFar, start, fed}
-use Rattle.queue_log.proofs.Moments.{keeps_both, keeps_sync}
+use Rattle.pool_store.proofs.Moments.{keeps_both, keeps_sync}
 use Rattle.queue_log.proofs.Pieces.{size_of}
 use Rattle.queue_log.proofs.Refusals.{not_missed, refusal_on, store_refused}
 use Rattle.queue_log.specs.Stands.{bad_line}

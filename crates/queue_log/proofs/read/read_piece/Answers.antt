@@ -1,6 +1,6 @@
 use Rattle.std.proofs.Common.{◌≡◌, true, take, arith}
 use Rattle.pool_outer.specs.Files.{bytes_in}
-use Rattle.queue_log.proofs.Moments.{keeps_same}
+use Rattle.pool_store.proofs.Moments.{keeps_same}
 use Rattle.queue_log.proofs.Refusals.{feed_refused, not_missed, store_refused}
 use Rattle.queue_log.specs.Files.{MeetsBadLine}
 use Rattle.queue_log.proofs.read.read_piece.Goals as goal

@@ -1,6 +1,6 @@
 use Rattle.std.proofs.Common.{◌≡◌, ◌∙◌, ℕ, zero, suc, ◌≤◌, ◌<◌, ◌^◌, List, [], ◌∷◌, ◌++◌, true, Some, length, take, drop, refl, sym, ap, subst, arith, rules}
 use Rattle.pool_outer.specs.Files.{bytes_in}
-use Rattle.queue_log.proofs.Moments.{keeps_both, keeps_none}
+use Rattle.pool_store.proofs.Moments.{keeps_both, keeps_none}
 use Rattle.queue_log.specs.Files.{IsSound, MeetsBadLine}
 use Rattle.queue_log.specs.Stands.{bad_line}
 use Rattle.queue_log.proofs.Pieces.{bad_line_met, reads_all, reads_on, size_of}

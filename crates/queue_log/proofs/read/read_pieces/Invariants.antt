@@ -2,7 +2,7 @@
 use Rattle.std.proofs.Common.{◌≡◌, ◌≤◌, ◌<◌, ◌-◌, ℕ, List, true, None, length, take}
 use Rattle.pool_outer.specs.Files.{bytes_in}
 use Rattle.queue_record.specs.ReadSoFar.{start, fed}
-use Rattle.queue_log.specs.Moments.{KeepsFile}
+use Rattle.pool_store.specs.Moments.{KeepsFile}
 use Rattle.queue_log.specs.Files.{IsSound}
 use Rattle.queue_log.proofs.read.read_pieces.Given as goal
 

@@ -2,7 +2,7 @@ use Rattle.std.proofs.Common.{◌≡◌, ◌∙◌, ◌<◌, ◌^◌, true, Opti
 use Rattle.std.specs.Option.{option_map}
 use Rattle.pool_outer.specs.Files.{bytes_in}
 use Rattle.queue_log.specs.Files.{IsReadOf}
-use Rattle.queue_log.proofs.Moments.{keeps_both, keeps_same}
+use Rattle.pool_store.proofs.Moments.{keeps_both, keeps_same}
 use Rattle.queue_log.proofs.Refusals.{not_missed, refusal_on, store_refused}
 use Rattle.queue_log.specs.Stands.{bad_line}
 use Rattle.queue_log.proofs.reattach.read_again.Goals as goal

@@ -1,6 +1,6 @@
 use Rattle.std.proofs.Common.{◌≡◌, ◌∙◌, true, Some, length, take, refl, ap, sym, arith}
 use Rattle.pool_outer.specs.Files.{bytes_in}
-use Rattle.queue_log.proofs.Moments.{changed_behind, kept_either}
+use Rattle.pool_store.proofs.Moments.{changed_behind, kept_either}
 use Rattle.queue_log.proofs.Opened.{whole_within}
 use Rattle.queue_log.proofs.Pieces.{cut_bytes, size_of}
 use Rattle.queue_log.proofs.Reattached.{beyond_refused, read_refused, reread_by}
@@ -8,8 +8,8 @@ use Rattle.queue_log.proofs.Refusals.{not_missed, store_refused}
 use Rattle.queue_log.specs.Stands.{bad_line}
 use Rattle.queue_log.proofs.reattach.reread.Goals as goal
 
-pub cut_behind-requires-clause-within : goal.cut_behind-requires-clause-within
-cut_behind-requires-clause-within g c tells =
+pub cut_after-requires-clause-within : goal.cut_after-requires-clause-within
+cut_after-requires-clause-within g c tells =
     let m = g.D.Store in
     let old = c.args.store.now in
     let mid = c.read_again.new.store in
@@ -64,17 +64,17 @@ returns-in-Err-beyond g c =
       told = e.told;
     }
 
-pub returns-in-Ok-cut_behind : goal.returns-in-Ok-cut_behind
-returns-in-Ok-cut_behind g c =
+pub returns-in-Ok-cut_after : goal.returns-in-Ok-cut_after
+returns-in-Ok-cut_after g c =
     let m = g.D.Store in
     let old = c.args.store.now in
     let mid = c.read_again.new.store in
-    let new = c.cut_behind.new.store in
+    let new = c.cut_after.new.store in
     let n = c.args.name.now in
     let log = c.in-Ok.again.1 in
     let e = c.in-Ok.ensures in
     let b = c.in-Ok-beyond.ensures in
-    let cut = c.in-Ok-cut_behind.ensures in
+    let cut = c.in-Ok-cut_after.ensures in
     record {
       reread = λ tells.
           let is = cut_bytes log.whole (m.file mid n) (m.file new n) (cut.cut (e.told ∙ tells)) ∙ ap (λ f. take log.whole (bytes_in f)) (e.keeps tells).same in
@@ -91,18 +91,18 @@ returns-in-Ok-cut_behind g c =
       told = cut.told ∙ e.told;
     }
 
-pub returns-in-Err-cut_behind : goal.returns-in-Err-cut_behind
-returns-in-Err-cut_behind g c =
+pub returns-in-Err-cut_after : goal.returns-in-Err-cut_after
+returns-in-Err-cut_after g c =
     let m = g.D.Store in
     let old = c.args.store.now in
     let mid = c.read_again.new.store in
-    let new = c.cut_behind.new.store in
+    let new = c.cut_after.new.store in
     let n = c.args.name.now in
     let bytes = bytes_in (m.file old n) in
     let e = c.in-Ok.ensures in
     let b = c.in-Ok-beyond.ensures in
-    let cut = c.in-Err-cut_behind.ensures in
-    let error = c.in-Err-cut_behind.error in
+    let cut = c.in-Err-cut_after.ensures in
+    let error = c.in-Err-cut_after.error in
     record {
       reread = λ tells. tt;
       next = tt;

@@ -1,6 +1,6 @@
 use Rattle.std.proofs.Common.{◌≡◌, ◌∙◌, true, Some, Err, refl, ap, arith}
 use Rattle.pool_outer.specs.Files.{bytes_in}
-use Rattle.queue_log.proofs.Moments.{keeps_none}
+use Rattle.pool_store.proofs.Moments.{keeps_none}
 use Rattle.queue_log.specs.NewLog.{new_log_text}
 use Rattle.queue_log.specs.Stands.{bad_line}
 use Rattle.queue_log.proofs.Opened.{begun_by, nothing_before, read_refused}

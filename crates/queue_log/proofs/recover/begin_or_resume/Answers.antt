@@ -1,7 +1,7 @@
 use Rattle.std.proofs.Common.{◌∙◌, IfOk, Err, OnErr, ap, subst}
 use Rattle.pool_outer.specs.Files.{bytes_in}
 use Rattle.queue_log.specs.Logs.{IsOpened, IsUncut}
-use Rattle.queue_log.proofs.Moments.{keeps_same}
+use Rattle.pool_store.proofs.Moments.{keeps_same}
 use Rattle.queue_log.proofs.Opened.{recover_refused}
 use Rattle.queue_log.proofs.Recovery.{behind_kept, kept_opening, uncut_same}
 use Rattle.queue_log.proofs.Results.{at_ok, if_err, if_ok, on_err}

@@ -1,6 +1,6 @@
 use Rattle.std.proofs.Common.{◌≡◌, ◌∙◌, ◌<◌, ◌^◌, inl, inr, true, Some, length, take, sym, ap, arith}
 use Rattle.pool_outer.specs.Files.{bytes_in}
-use Rattle.queue_log.proofs.Moments.{leaves_fewer}
+use Rattle.pool_store.proofs.Moments.{leaves_fewer}
 use Rattle.queue_log.proofs.Opened.{image_after, opened_by, read_refused, too_many, whole_within}
 use Rattle.queue_log.proofs.Pieces.{cut_bytes, size_of}
 use Rattle.queue_log.proofs.Recovery.{behind_cut, kept_opening, stands_as}
@@ -8,8 +8,8 @@ use Rattle.queue_log.proofs.Refusals.{not_missed, store_refused}
 use Rattle.queue_log.specs.Stands.{bad_line}
 use Rattle.queue_log.proofs.recover.resume.Goals as goal
 
-pub cut_behind-requires-clause-within : goal.cut_behind-requires-clause-within
-cut_behind-requires-clause-within g c tells =
+pub cut_after-requires-clause-within : goal.cut_after-requires-clause-within
+cut_after-requires-clause-within g c tells =
     let m = g.D.Store in
     let old = c.args.store.now in
     let n = c.args.name.now in
@@ -54,17 +54,17 @@ returns-in-Err-opening_of g c =
       told = e.told;
     }
 
-pub returns-in-Ok-cut_behind : goal.returns-in-Ok-cut_behind
-returns-in-Ok-cut_behind g c =
+pub returns-in-Ok-cut_after : goal.returns-in-Ok-cut_after
+returns-in-Ok-cut_after g c =
     let m = g.D.Store in
     let old = c.args.store.now in
     let mid = c.read_log.new.store in
-    let new = c.cut_behind.new.store in
+    let new = c.cut_after.new.store in
     let n = c.args.name.now in
     let log = c.in-Ok.read in
     let bytes = bytes_in (m.file old n) in
     let e = c.in-Ok.ensures in
-    let cut = c.in-Ok-cut_behind.ensures in
+    let cut = c.in-Ok-cut_after.ensures in
     let o = c.in-Ok-opening_of.ensures.opening in
     let size = λ (tells : m.tells old ≡ true). size_of (m.file old n) c.args.size (c.requires.size tells) in
     let small = λ (tells : m.tells old ≡ true). (let long = size tells in let fits : length bytes < 2 ^ 64 = omega (arith, long, c.ranges.size.fits) in fits) in
@@ -82,17 +82,17 @@ returns-in-Ok-cut_behind g c =
       told = cut.told ∙ e.told;
     }
 
-pub returns-in-Err-cut_behind : goal.returns-in-Err-cut_behind
-returns-in-Err-cut_behind g c =
+pub returns-in-Err-cut_after : goal.returns-in-Err-cut_after
+returns-in-Err-cut_after g c =
     let m = g.D.Store in
     let old = c.args.store.now in
     let mid = c.read_log.new.store in
-    let new = c.cut_behind.new.store in
+    let new = c.cut_after.new.store in
     let n = c.args.name.now in
     let bytes = bytes_in (m.file old n) in
     let e = c.in-Ok.ensures in
-    let cut = c.in-Err-cut_behind.ensures in
-    let error = c.in-Err-cut_behind.error in
+    let cut = c.in-Err-cut_after.ensures in
+    let error = c.in-Err-cut_after.error in
     record {
       named = tt;
       opened = λ tells. tt;

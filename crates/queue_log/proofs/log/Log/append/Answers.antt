@@ -6,7 +6,7 @@ use Rattle.queue_tx.specs.Queues.{KeyedAds, queue_after, with_changes}
 use Rattle.queue_log.specs.declared.log.Halt.{Halt}
 use Rattle.queue_log.specs.Logs.{IsWhole, KeepsLog}
 use Rattle.queue_log.specs.Stands.{IsBeforeOrAfter}
-use Rattle.queue_log.proofs.Moments.{begins}
+use Rattle.pool_store.proofs.Moments.{begins}
 use Rattle.queue_log.proofs.Settled.{log_image}
 use Rattle.queue_log.proofs.log.Log.append.Goals as goal
 

@@ -1,6 +1,6 @@
 use Rattle.std.proofs.Common.{◌≡◌, ◌∙◌, ◌⊎◌, ◌++◌, ◌∷◌, [], Some, None, true, ap, sym, subst}
 use Rattle.pool_outer.specs.Files.{bytes_in, Leaves}
-use Rattle.queue_log.proofs.Moments.{weaker}
+use Rattle.pool_store.proofs.Moments.{weaker}
 use Rattle.queue_log.specs.Logs.{IsWhole, KeepsLog, StandsForLog}
 use Rattle.queue_log.specs.Reattaching.{IsReattachRefused, IsReread, IsRereadRefused}
 use Rattle.queue_log.proofs.Reattached.{found_some, goes_on, image_cut, image_kept, kept_on, refused_by, GoesOn}

@@ -1,8 +1,8 @@
 use Rattle.std.proofs.Common.{◌∙◌, arith, ap}
 use Rattle.pool_outer.specs.Files.{bytes_in, Leaves}
-use Rattle.queue_log.specs.Moments.{IsReached}
-use Rattle.queue_log.proofs.Moments.{begins, goes_on, reached_before, reached_after, leaves_fewer}
-use Rattle.queue_log.proofs.append.append_solid.Goals as goal
+use Rattle.pool_store.specs.Moments.{IsReached}
+use Rattle.pool_store.proofs.Moments.{begins, goes_on, reached_before, reached_after, leaves_fewer}
+use Rattle.pool_store.proofs.append.append_solid.Goals as goal
 
 pub returns-in_err-append-clause-any_moment : goal.returns-in_err-append-clause-any_moment
 returns-in_err-append-clause-any_moment g c tells =

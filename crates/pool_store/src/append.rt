@@ -2,7 +2,7 @@ ghost use Rattle.std.specs.Prelude.{◌≡◌, ◌≢◌, ◌≤◌, ◌++◌, �
 ghost use Rattle.pool_outer.specs.declared.store.StoreError.TheVariants.{Failed, Missing};
 ghost use Rattle.pool_outer.specs.Cause.{HasCause};
 ghost use Rattle.pool_outer.specs.Files.{bytes_in, Leaves, Learns, SameOthers};
-ghost use Rattle.queue_log.specs.Moments.{IsReached, LeavesOnly};
+ghost use Rattle.pool_store.specs.Moments.{IsReached, LeavesOnly};
 
 use pool_outer::{Store, StoreError};
 use std::alloc::Global;

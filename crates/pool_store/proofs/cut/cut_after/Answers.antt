@@ -1,7 +1,7 @@
 use Rattle.std.proofs.Common.{◌⊎◌, inl}
 use Rattle.pool_outer.specs.Files.{Leaves}
-use Rattle.queue_log.proofs.Moments.{begins}
-use Rattle.queue_log.proofs.cut.cut_behind.Goals as goal
+use Rattle.pool_store.proofs.Moments.{begins}
+use Rattle.pool_store.proofs.cut.cut_after.Goals as goal
 
 pub returns-clause-any_moment : goal.returns-clause-any_moment
 returns-clause-any_moment g c tells =

@@ -3,7 +3,7 @@ use Rattle.std.proofs.Common.{◌≡◌, ◌⊎◌, inl, inr, ⊎_elim, ℕ, zer
 use Rattle.std.specs.Prelude.{Result}
 use Rattle.pool_outer.specs.declared.store.StoreError.{StoreError}
 use Rattle.pool_outer.specs.Files.{Contents, Images, Lengths, IsImage, Leaves, Elapses, SameFiles, Syncs, bytes_in}
-use Rattle.queue_log.specs.Moments.{IsReached, KeepsFile, LeavesOnly}
+use Rattle.pool_store.specs.Moments.{IsReached, KeepsFile, LeavesOnly}
 
 module _ {D : Type 0} (moment : D → ℕ) (left_since : D → Images) (name : List ℕ) where
   -- before the first call

@@ -3,14 +3,14 @@ ghost use Rattle.std.specs.Option.{option_map};
 ghost use Rattle.pool_outer.specs.declared.store.StoreError.TheVariants.{Failed};
 ghost use Rattle.pool_outer.specs.Cause.{HasCause};
 ghost use Rattle.pool_outer.specs.Files.{Leaves, Misses, SameFiles, SameOthers};
-ghost use Rattle.queue_log.specs.Moments.{LeavesOnly};
+ghost use Rattle.pool_store.specs.Moments.{LeavesOnly};
 
 use pool_outer::{Store, StoreError};
 use std::alloc::Global;
 
-/// Cuts what stands behind the first `whole` bytes of a solid file of that size. An error leaves it
+/// Cuts what stands after the first `whole` bytes of a solid file of that size. An error leaves it
 /// as it was. Computes in O(1).
-pub fn cut_behind<D: Store>(
+pub fn cut_after<D: Store>(
     alloc: Global,
     store: &mut D,
     name: &str,
