@@ -143,3 +143,11 @@ module _ {D : Type 0} (file : D → Contents) (solid : D → Lengths) (moment : 
       by : (image : List ℕ) → Leaves (file mid) (solid mid) name image ⊎ Leaves (file new) (solid new) name image → Leaves (file old) (solid old) name image ⊎ Leaves (file new) (solid new) name image
       by image (inl left) = inl (leaves_fewer (file old) (file mid) (solid old) (solid mid) name image k.same k.no_less left)
       by image (inr left) = inr left
+
+  -- and where calls behind that leave nothing else than before them
+  pub quiet_behind : (old mid new : D) → file mid name ≡ file old name → solid mid name ≡ solid old name → LeavesOnly moment left_since name old mid (Leaves (file old) (solid old) name)
+      → LeavesOnly moment left_since name mid new (Leaves (file mid) (solid mid) name) → LeavesOnly moment left_since name old new (Leaves (file old) (solid old) name)
+  quiet_behind old mid new same solid_same first second =
+      joins moment left_since name old mid new (Leaves (file old) (solid old) name) first
+      (weaker moment left_since name mid new (Leaves (file mid) (solid mid) name) (Leaves (file old) (solid old) name) second
+      (λ image left. leaves_fewer (file old) (file mid) (solid old) (solid mid) name image same (omega arith) left))

@@ -3,4 +3,6 @@ pub mod Boots
 pub mod MemoryFiles
 pub mod MemoryParts
 pub mod Moments
+pub mod OpenErrors
+pub mod Openings
 pub mod Past

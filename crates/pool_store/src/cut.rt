@@ -1,4 +1,4 @@
-ghost use Rattle.std.specs.Prelude.{◌≡◌, ◌⊎◌, ◌≤◌, ℕ, List, true, Some, length, take, OnOk, OnErr};
+ghost use Rattle.std.specs.Prelude.{◌≡◌, ◌≢◌, ◌⊎◌, ◌≤◌, ℕ, List, true, Some, length, take, OnOk, OnErr};
 ghost use Rattle.std.specs.Option.{option_map};
 ghost use Rattle.pool_outer.specs.declared.store.StoreError.TheVariants.{Failed};
 ghost use Rattle.pool_outer.specs.Cause.{HasCause};
@@ -33,11 +33,15 @@ pub fn cut_after<D: Store>(
         → SameOthers name.now (D.file store.old) (D.file store.new) (D.solid store.old)
         (D.solid store.new) }
 
-    // What a stop at any moment leaves of it: all of it, or what is left of it at last.
+    // What a stop at any moment leaves of it: all of it, or what is left of it at last; and of
+    // another file.
     ensures any_moment { D.tells store.old ≡ true
         → LeavesOnly D.moment D.left_since name.now store.old store.new
         (λ image. Leaves (D.file store.old) (D.solid store.old) name.now image
         ⊎ Leaves (D.file store.new) (D.solid store.new) name.now image) }
+    ensures quiet { D.tells store.old ≡ true → (other : List ℕ) → other ≢ name.now
+        → LeavesOnly D.moment D.left_since other store.old store.new
+        (Leaves (D.file store.old) (D.solid store.old) other) }
 
     // The name, what the store tells, and its faults.
     ensures missing { Misses (D.tells store.old) (D.file store.old) (D.known store.old) name.now
