@@ -118,7 +118,7 @@ next_is_above bytes boots next says is =
     let n = next_is boots.largest next is in
     (n.is_boot, above_all says.numbers next boots.largest says.greatest n)
 
-whole_lines : (bytes : List ℕ) (boots : Boots) (says : SaysBoots bytes boots) → take boots.whole bytes ≡ boot_lines says.numbers
+pub whole_lines : (bytes : List ℕ) (boots : Boots) (says : SaysBoots bytes boots) → take boots.whole bytes ≡ boot_lines says.numbers
 whole_lines bytes boots says =
     ap (λ (k : ℕ). take k bytes) says.counted
     ∙ ap (take (length (boot_lines says.numbers))) says.parts

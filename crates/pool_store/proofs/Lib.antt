@@ -6,4 +6,5 @@ pub mod Moments
 pub mod Moves
 pub mod Names
 pub mod Newlines
+pub mod Openings
 pub mod Pasts

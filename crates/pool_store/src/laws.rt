@@ -1,10 +1,13 @@
 //! What holds of all files of boots.
 
-ghost use Rattle.std.specs.Prelude.{◌≡◌, ◌≤◌, ◌<◌, ◌+◌, ◌++◌, ◌∷◌, [], ℕ, List, Some, length, take, decimal, All};
+ghost use Rattle.std.specs.Prelude.{◌≡◌, ◌⊎◌, ◌≤◌, ◌<◌, ◌+◌, ◌++◌, ◌∷◌, [], ℕ, List, Option, Some, length, take, decimal, All};
 ghost use Rattle.pool_store.specs.declared.boots.Boots.{Boots};
 ghost use Rattle.pool_store.specs.declared.error.BootError.{BootError};
 ghost use Rattle.pool_store.specs.Boots.{SaysBoots, boot_lines, next_boot, IsBoot};
 ghost use Rattle.pool_store.specs.BadNumbers.{IsRefused};
+ghost use Rattle.pool_outer.specs.Files.{bytes_in, Contents, Leaves, Lengths};
+ghost use Rattle.pool_store.specs.Moments.{IsReached};
+ghost use Rattle.pool_store.specs.Openings.{AreOpened, AreWholeLines};
 
 /// A file says one thing.
 pub fn file_says_one_thing()
@@ -38,4 +41,32 @@ pub fn torn_line_says_nothing()
     ensures { (bytes : List ℕ) (boots : Boots) (next count : ℕ) → SaysBoots bytes boots
         → next_boot boots.largest ≡ Some next → count ≤ length (decimal next)
         → SaysBoots (take boots.whole bytes ++ take count (boot_lines (next ∷ []))) boots }
+{}
+
+/// What an opening leaves of a file says what the file said.
+pub fn whole_lines_say_the_same()
+    ensures { (bytes lines : List ℕ) (boots : Boots)
+        → SaysBoots bytes boots → AreWholeLines bytes lines → SaysBoots lines boots }
+{}
+
+/// While the next boot's line is written behind an opened file, a stop leaves a file that says what
+/// it said, or that boot as the largest.
+pub fn no_boot_is_lost_while_the_next_is_written()
+    ensures { (file opened : Option (List ℕ)) (solid next : ℕ) (boots : Boots) (image : List ℕ)
+        → AreOpened file opened solid boots → next_boot boots.largest ≡ Some next
+        → IsReached solid (bytes_in opened) (boot_lines (next ∷ [])) image
+        → SaysBoots image boots
+        ⊎ SaysBoots image (record { largest = Some next; whole = length image }) }
+{}
+
+/// Once each image of an opened file has the next boot's line behind it, that boot is the largest
+/// in each.
+pub fn new_boot_is_the_largest_in_each_image()
+    ensures { (file opened : Option (List ℕ)) (solid next : ℕ) (boots : Boots)
+        (files : Contents) (solids : Lengths) (name : List ℕ)
+        → AreOpened file opened solid boots → next_boot boots.largest ≡ Some next
+        → ((image : List ℕ) → Leaves files solids name image
+        → image ≡ bytes_in opened ++ boot_lines (next ∷ []))
+        → (image : List ℕ) → Leaves files solids name image
+        → SaysBoots image (record { largest = Some next; whole = length image }) }
 {}
