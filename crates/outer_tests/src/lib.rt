@@ -5,7 +5,13 @@
 #[cfg(test)]
 mod ads;
 #[cfg(test)]
+mod calls;
+#[cfg(test)]
 mod clock;
+#[cfg(test)]
+mod locked;
+#[cfg(test)]
+mod recorded;
 #[cfg(test)]
 mod sink;
 #[cfg(test)]

@@ -8,17 +8,17 @@ use std::time::Duration;
 
 // What a child is started with; bars divide the words.
 #[derive(Clone, Copy)]
-struct Start<'a> {
-    program: &'a str,
-    words: &'a str,
-    folder: &'a str,
-    input: &'a str,
-    output: &'a str,
-    errors: &'a str,
+pub(crate) struct Start<'a> {
+    pub(crate) program: &'a str,
+    pub(crate) words: &'a str,
+    pub(crate) folder: &'a str,
+    pub(crate) input: &'a str,
+    pub(crate) output: &'a str,
+    pub(crate) errors: &'a str,
 }
 
 // All of its texts are empty.
-fn empty_launch(alloc: Global) -> Launch {
+pub(crate) fn empty_launch(alloc: Global) -> Launch {
     Launch {
         program: Text::new(alloc),
         words: TextList::new(alloc),
@@ -41,7 +41,7 @@ fn push_words(alloc: Global, list: &mut TextList, words: &str) -> Result<(), Mem
     Ok(())
 }
 
-fn fill(alloc: Global, what: &mut Launch, start: Start) -> Result<(), Memory> {
+pub(crate) fn fill(alloc: Global, what: &mut Launch, start: Start) -> Result<(), Memory> {
     set(alloc, &mut what.program, start.program)?;
     push_words(alloc, &mut what.words, start.words)?;
     set(alloc, &mut what.folder, start.folder)?;
@@ -72,7 +72,7 @@ fn ending_of<P: Spawner>(
     Ok(ChildState::Running)
 }
 
-fn end_from<P: Spawner>(
+pub(crate) fn end_from<P: Spawner>(
     rt: &impl Clock,
     alloc: Global,
     spawner: &mut P,
@@ -94,7 +94,7 @@ type Case = (
     Result<ChildState, SpawnError>,
 );
 
-const SUCCESS: Result<ChildState, SpawnError> = Ok(ChildState::Exited(0));
+pub(crate) const SUCCESS: Result<ChildState, SpawnError> = Ok(ChildState::Exited(0));
 
 const KILLED: Result<ChildState, SpawnError> = Ok(ChildState::Signalled(9));
 

@@ -1,5 +1,5 @@
 use pool_outer::{Store, StoreError};
-use pool_store::DiskStore;
+use pool_store::{DiskStore, LockFile};
 use std::alloc::Global;
 use std::fs::File;
 use std::process::Abort;
@@ -13,7 +13,7 @@ const NEXT: &str = "outer_store/next";
 
 // What is done to a file.
 #[derive(Clone, Copy)]
-enum Change {
+pub(crate) enum Change {
     Size,
     Append(&'static str),
     Sync,
@@ -22,11 +22,11 @@ enum Change {
     Remove,
 }
 
-const DONE: Result<u64, StoreError> = Ok(0);
+pub(crate) const DONE: Result<u64, StoreError> = Ok(0);
 
 const MISSING: Result<u64, StoreError> = Err(StoreError::Missing);
 
-const FAILED: Result<u64, StoreError> = Err(StoreError::Failed);
+pub(crate) const FAILED: Result<u64, StoreError> = Err(StoreError::Failed);
 
 // A change of a file, and its answer: where it has one, the size.
 type Case = (&'static str, Change, Result<u64, StoreError>);
@@ -67,13 +67,16 @@ const REFUSED: &[Case] = &[
     ("/dev/full", Change::Append("x"), FAILED),
 ];
 
-fn answer<R: Files + Drop>(
+pub(crate) fn answer<R: Files + Drop>(
     rt: &impl Files,
     alloc: Global,
     store: &mut DiskStore<R>,
     name: &str,
     change: Change,
-) -> Result<u64, StoreError> {
+) -> Result<u64, StoreError>
+where
+    R::File: LockFile,
+{
     match change {
         Change::Size => store.size(alloc, name),
         Change::Append(text) => done(store.append(alloc, name, text.as_bytes())),
@@ -101,14 +104,17 @@ fn check<R: Files + Drop>(
     alloc: Global,
     store: &mut DiskStore<R>,
     cases: &[Case],
-) {
+)
+where
+    R::File: LockFile,
+{
     for (place, (name, change, want)) in cases.iter().enumerate() {
         let got = answer(rt, alloc, store, name, *change);
         assert_eq!(rt; got, *want, "change {place}, of {name}");
     }
 }
 
-fn check_text(
+pub(crate) fn check_text(
     rt: &(impl Files + Abort),
     alloc: Global,
     name: &str,
@@ -123,7 +129,10 @@ fn check_store<R: Files + Drop>(
     rt: &(impl Files + Abort),
     alloc: Global,
     store: &mut DiskStore<R>,
-) -> Result<(), Fail> {
+) -> Result<(), Fail>
+where
+    R::File: LockFile,
+{
     check(rt, alloc, store, WRITTEN);
     check_text(rt, alloc, LOG, "hell!")?;
     check(rt, alloc, store, MOVED);

@@ -4,29 +4,48 @@ ghost use Rattle.pool_outer.specs.declared.store.StoreError.TheVariants.{Failed}
 ghost use Rattle.pool_outer.specs.Cause.{HasCause, Rose};
 ghost use Rattle.pool_outer.specs.Files.{Learns, is_named};
 
+mod lock;
+mod opened;
 mod written;
 
 use ad_value::{Memory, Text};
+pub use lock::LockFile;
 use pool_outer::{Store, StoreError, count_fault};
 use std::alloc::Global;
 use std::io::{ErrorKind, Read, Seek, SeekFrom};
 use std::rt::Files;
 use std::{fs, io};
-use written::{Written, append_to, cut_file, rename_file, sync_file};
+use written::WrittenFiles;
 
 /// Files of the system, by their paths. It tells nothing of what they hold.
 ///
-/// The file that was written last stays open. A name in a folder is durable after the first sync
-/// of the file since it was opened.
+/// Before the first call that may change a file (`append`, `sync`, `cut`, and `rename` of both its
+/// names), the store takes the system's advisory lock on it. It has the lock until the store is
+/// dropped or a rename replaces the file, and a file that is moved keeps it. Where another process
+/// has the lock, the call is `Failed`. What isn't a regular file is not locked.
+///
+/// A name in a folder is durable after the first sync of the file since it was opened.
+///
+/// A file that the system failed to sync, or whose folder it failed to sync then, is failed from
+/// then on, under each name: a call that would change it, replace it or sync it is `Failed`. So is
+/// a rename in that folder, and the first sync of another file there. For the system may drop what
+/// it could not write, and answer the next sync by `Ok`. Sizes and reads stay as they are.
 #[derive(Drop)]
-pub struct DiskStore<R: Files + Drop> {
+pub struct DiskStore<R: Files + Drop>
+where
+    R::File: LockFile,
+{
     rt: R,
     known: Vec<Text>,
-    last: Option<Written<R::File>>,
+    written: WrittenFiles<R::File>,
     faults: u64,
 }
 
-impl<R: Files + Drop> DiskStore<R> {
+impl<R: Files + Drop> DiskStore<R>
+where
+    R::File: LockFile,
+{
+    /// A store that has changed no file, and has locked none. Computes in O(1).
     pub fn new(alloc: Global, rt: R) -> DiskStore<R>
         ensures faults { ⟦<DiskStore<R> as Store>⟧.faults result ≡ 0 }
         ensures known { (name : List ℕ) → ⟦<DiskStore<R> as Store>⟧.known result name ≡ false }
@@ -34,7 +53,7 @@ impl<R: Files + Drop> DiskStore<R> {
         DiskStore {
             rt,
             known: Vec::new(alloc),
-            last: None,
+            written: WrittenFiles::new(alloc),
             faults: 0,
         }
     }
@@ -139,7 +158,10 @@ impl<R: Files + Drop> DiskStore<R> {
     }
 }
 
-impl<R: Files + Drop> Store for DiskStore<R> {
+impl<R: Files + Drop> Store for DiskStore<R>
+where
+    R::File: LockFile,
+{
     ghost use Rattle.std.specs.Prelude.{false, None};
     ghost use Rattle.pool_outer.specs.Files.{is_named};
 
@@ -186,7 +208,7 @@ impl<R: Files + Drop> Store for DiskStore<R> {
     // A known file that isn't there any more isn't made anew.
     fn append(&mut self, alloc: Global, name: &str, bytes: &[u8]) -> Result<(), StoreError> {
         let new = self.room_for(alloc, name)?;
-        match append_to(&self.rt, alloc, &mut self.last, name, new.is_some(), bytes) {
+        match self.written.append(&self.rt, name, new.is_some(), bytes) {
             Ok(()) => {
                 self.learn(name, new);
                 Ok(())
@@ -197,23 +219,22 @@ impl<R: Files + Drop> Store for DiskStore<R> {
 
     fn sync(&mut self, alloc: Global, name: &str) -> Result<(), StoreError> {
         let new = self.room_for(alloc, name)?;
-        let synced = sync_file(&self.rt, alloc, &mut self.last, name);
+        let synced = self.written.sync(&self.rt, name);
         self.answer(name, new, synced)
     }
 
     fn cut(&mut self, alloc: Global, name: &str, size: u64) -> Result<(), StoreError> {
         let new = self.room_for(alloc, name)?;
-        let cut = cut_file(&self.rt, alloc, &mut self.last, name, size);
+        let cut = self.written.cut(&self.rt, name, size);
         self.answer(name, new, cut)
     }
 
     fn rename(&mut self, alloc: Global, from: &str, to: &str) -> Result<(), StoreError> {
         let new = self.room_for(alloc, to)?;
-        self.last = None;
         if let Err(error) = fs::metadata(&self.rt, from) {
             return Err(self.refusal(from, &error));
         }
-        match rename_file(&self.rt, from, to) {
+        match self.written.rename(&self.rt, from, to) {
             Ok(()) => {
                 self.learn(to, new);
                 self.forget(from);

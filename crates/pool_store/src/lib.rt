@@ -18,7 +18,7 @@ mod read;
 pub use append::append_solid;
 pub use boots::{Boots, LAST_BOOT, read_boots};
 pub use cut::cut_after;
-pub use disk::DiskStore;
+pub use disk::{DiskStore, LockFile};
 pub use error::{BootError, OpenBootsError};
 pub use line::boot_line;
 pub use memory::{MemFile, MemStore, SureStore};
