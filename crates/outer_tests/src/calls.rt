@@ -42,7 +42,12 @@ const WRITTEN: &[Case] = &[
 
 // What was locked by one name has its lock by the other.
 const RENAMED: &[Case] = &[
-    (LOG, Change::Rename(NEXT), DONE, "rename log next; sync .; "),
+    (
+        LOG,
+        Change::Rename(NEXT),
+        DONE,
+        "rename log next; sync .; close next; ",
+    ),
     (NEXT, Change::Append("!"), DONE, "write log 1; "),
     (NEXT, Change::Sync, DONE, "sync log; "),
     (
@@ -54,12 +59,12 @@ const RENAMED: &[Case] = &[
     (MOVED, Change::Cut(1), DONE, "cut log 1; sync log; "),
 ];
 
-// Both files are locked before one takes the other's place.
+// Both files are locked before one takes the other's place, which is closed then.
 const REPLACED: &[Case] = &[(
     LOG,
     Change::Rename(NEXT),
     DONE,
-    "open log; lock log; open next; lock next; open .; rename log next; sync .; ",
+    "open log; lock log; open next; lock next; open .; rename log next; sync .; close next; ",
 )];
 
 // The system takes two bytes at a time.
@@ -74,19 +79,34 @@ const SHORT: &[Case] = &[(
 const LOCKED: &[(&str, Case)] = &[
     (
         "lock log",
-        (LOG, Change::Append("x"), FAILED, "open log; lock log; "),
+        (
+            LOG,
+            Change::Append("x"),
+            FAILED,
+            "open log; lock log; close log; ",
+        ),
     ),
     (
         "lock log",
-        (LOG, Change::Sync, FAILED, "open log; lock log; "),
+        (LOG, Change::Sync, FAILED, "open log; lock log; close log; "),
     ),
     (
         "lock log",
-        (LOG, Change::Cut(0), FAILED, "open log; lock log; "),
+        (
+            LOG,
+            Change::Cut(0),
+            FAILED,
+            "open log; lock log; close log; ",
+        ),
     ),
     (
         "lock log",
-        (LOG, Change::Rename(NEXT), FAILED, "open log; lock log; "),
+        (
+            LOG,
+            Change::Rename(NEXT),
+            FAILED,
+            "open log; lock log; close log; ",
+        ),
     ),
     (
         "lock next",
@@ -94,14 +114,19 @@ const LOCKED: &[(&str, Case)] = &[
             LOG,
             Change::Rename(NEXT),
             FAILED,
-            "open log; lock log; open next; lock next; ",
+            "open log; lock log; open next; lock next; close next; ",
         ),
     ),
 ];
 
 // A file that isn't there any more once it is locked, and then the one in its place.
 const MOVED_AWAY: &[Case] = &[
-    (LOG, Change::Append("x"), FAILED, "open log; lock log; "),
+    (
+        LOG,
+        Change::Append("x"),
+        FAILED,
+        "open log; lock log; close log; ",
+    ),
     (
         LOG,
         Change::Append("x"),

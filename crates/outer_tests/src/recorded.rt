@@ -74,7 +74,6 @@ pub(crate) struct RecordedFiles<'a> {
 }
 
 // An open file, and the name by which it was opened.
-#[derive(Drop)]
 pub(crate) struct RecordedFile<'a> {
     file: File,
     name: String,
@@ -161,6 +160,18 @@ impl RecordedFile<'_> {
     fn note_count(&self, call: &str, count: u64) -> io::Result<()> {
         let record = self.record;
         record.note(format!(in record.alloc; "{call} {} {count}", self.name)?)
+    }
+}
+
+impl Drop for RecordedFile<'_> {
+    fn drop(self) {
+        let _ = self.note("close");
+        let RecordedFile {
+            file: _file,
+            name: _name,
+            rt: _,
+            record: _,
+        } = self;
     }
 }
 
