@@ -10,3 +10,10 @@ returns-clause-any_moment g c tells =
     let name = c.args.name.now in
     begins m.moment m.left_since name old (λ image. Leaves (m.file old) (m.solid old) name image ⊎ Leaves (m.file old) (m.solid old) name image)
     (λ image left. inl (g.met.D.Store.only_now old name image tells left))
+
+pub returns-clause-quiet : goal.returns-clause-quiet
+returns-clause-quiet g c tells other apart =
+    let m = g.D.Store in
+    let old = c.args.store.now in
+    begins m.moment m.left_since other old (Leaves (m.file old) (m.solid old) other)
+    (λ image left. g.met.D.Store.only_now old other image tells left)
