@@ -93,14 +93,14 @@ pub(crate) fn write_beside(
     Err(CaseError::Form { line: case.line })
 }
 
-// The file beside a log isn't that of the log.
+// The file is one beside that of the log.
 fn write_once(
     alloc: Global,
     case: Case<'_>,
     log: &mut Log<MemStore>,
     text: &str,
 ) -> Result<Result<(), LogError>, CaseError> {
-    if NUMBERS == log.name() {
+    if !log.is_beside(NUMBERS) {
         return Err(CaseError::Form { line: case.line });
     }
     Ok(log.append_beside(alloc, NUMBERS, text.as_bytes()))

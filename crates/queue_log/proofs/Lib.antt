@@ -1,7 +1,9 @@
 pub mod Beyond
 pub mod NewLog
 pub mod Opened
+pub mod Others
 pub mod Pieces
+pub mod Queues
 pub mod Readings
 pub mod Reattached
 pub mod Recovery

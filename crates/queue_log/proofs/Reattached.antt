@@ -16,9 +16,9 @@ use Rattle.queue_log.specs.declared.error.LogError.TheVariants.{BadRecord, Limit
 use Rattle.queue_log.specs.declared.log.Halt.{Halt}
 use Rattle.queue_log.specs.declared.logged.More.{More}
 use Rattle.queue_log.specs.Files.{IsReadOf, IsReadRefusal}
-use Rattle.queue_log.specs.Logged.{HasOneMore, IsBeyond, IsBeyondRefused, IsOtherList, with_more}
+use Rattle.queue_log.specs.Logged.{HasOneMore, IsBeyond, IsBeyondRefused, with_more}
 use Rattle.queue_log.specs.Logs.{IsPending, IsWhole, KeepsLog, StandsForLog}
-use Rattle.queue_log.specs.Reattaching.{IsFound, IsOfPending, IsReattachRefused, IsReread, IsRereadRefused}
+use Rattle.queue_log.specs.Reattaching.{IsFound, IsForeign, IsOfPending, IsPendingRefused, IsPendingTx, IsReattachRefused, IsReread, IsRereadRefused}
 use Rattle.queue_log.specs.Stands.{IsSettled, Stands, bad_line, line_of}
 use Rattle.queue_log.proofs.Readings.{cut_settles, take_length, IsCut}
 use Rattle.queue_log.proofs.Settled.{image_whole, log_image, settled_stands, settles, take_all}
@@ -72,16 +72,16 @@ none_bad halt list queue bytes solid line k bad =
     cc clash
 
 -- and it is no other list
-none_other : (halt : Option Halt) (list : List (List Operation)) (queue : KeyedAds) (bytes : List ℕ) (solid : ℕ) → KeepsLog halt list queue bytes solid → IsOtherList (fed start bytes).list list → ⊥
+none_other : (halt : Option Halt) (list : List (List Operation)) (queue : KeyedAds) (bytes : List ℕ) (solid : ℕ) → KeepsLog halt list queue bytes solid → IsForeign halt (fed start bytes).list list → ⊥
 none_other halt list queue bytes solid k other = by (read_log halt list queue bytes solid k).says
   where
     by : Says halt list queue bytes → ⊥
     by (as_logged l q) = other.not_same l
-    by (with_pending h e l) = other.not_more (h.pending, l)
+    by (with_pending h e l) = other.not_pending h.pending (subst (λ k. IsPendingTx k h.pending) (sym e) refl) l
 
 -- so it differs only where the store tells nothing
 pub refused_by : (halt : Option Halt) (list : List (List Operation)) (queue : KeyedAds) (bytes : List ℕ) (solid : ℕ) (tells : Bool) (before now : ℕ) (e : LogError) → (tells ≡ true → KeepsLog halt list queue bytes solid)
-    → IsRereadRefused tells bytes list before now e → IsReattachRefused tells bytes list before now e
+    → IsRereadRefused halt tells bytes list before now e → IsReattachRefused tells bytes list before now e
 refused_by halt list queue bytes solid tells before now (BadRecord line) k r = λ t. ⊎_elim (λ bad. none_bad halt list queue bytes solid line (k t) bad) (λ other. none_other halt list queue bytes solid (k t) other.1) (r t)
 refused_by halt list queue bytes solid tells before now (Limit which) k r = r
 refused_by halt list queue bytes solid tells before now Disk k r = r
@@ -179,15 +179,32 @@ reread_by list bytes new solid log beyond small read over is durable =
     }
 
 -- why it can't be read
-pub read_refused : (tells : Bool) (bytes : List ℕ) (list : List (List Operation)) (before now : ℕ) (e : LogError) → IsReadRefusal (λ line. tells ≡ true → bad_line bytes ≡ Some line) before now e → IsRereadRefused tells bytes list before now e
-read_refused tells bytes list before now (BadRecord line) h = λ t. inl (h t)
-read_refused tells bytes list before now (Limit which) h = absurd h
-read_refused tells bytes list before now Disk h = h
-read_refused tells bytes list before now Memory h = tt
+pub read_refused : (halt : Option Halt) (tells : Bool) (bytes : List ℕ) (list : List (List Operation)) (before now : ℕ) (e : LogError) → IsReadRefusal (λ line. tells ≡ true → bad_line bytes ≡ Some line) before now e → IsRereadRefused halt tells bytes list before now e
+read_refused halt tells bytes list before now (BadRecord line) h = λ t. inl (h t)
+read_refused halt tells bytes list before now (Limit which) h = absurd h
+read_refused halt tells bytes list before now Disk h = h
+read_refused halt tells bytes list before now Memory h = tt
 
 -- or is of no use
-pub beyond_refused : (tells : Bool) (bytes : List ℕ) (list : List (List Operation)) (log : ReadLog) (before now : ℕ) (e : LogError) → (tells ≡ true → IsReadOf bytes log) → IsBeyondRefused log.list list e → IsRereadRefused tells bytes list before now e
-beyond_refused tells bytes list log before now (BadRecord line) read h = λ t. inr (h.0, subst (λ l. IsOtherList l list) (read t).listed h.1)
-beyond_refused tells bytes list log before now (Limit which) read h = (h.0, h.2, λ t. subst (λ l. HasOneMore l list) (read t).listed h.1)
-beyond_refused tells bytes list log before now Disk read h = absurd h
-beyond_refused tells bytes list log before now Memory read h = tt
+pub beyond_refused : (halt : Option Halt) (tells : Bool) (bytes : List ℕ) (list : List (List Operation)) (log : ReadLog) (before now : ℕ) (e : LogError) → (tells ≡ true → IsReadOf bytes log) → IsPendingRefused halt log.list list e
+    → IsRereadRefused halt tells bytes list before now e
+beyond_refused halt tells bytes list log before now (BadRecord line) read h = λ t. inr (h.0, subst (λ l. IsForeign halt l list) (read t).listed h.1)
+beyond_refused halt tells bytes list log before now (Limit which) read h = (h.0, h.2, λ t. subst (λ l. HasOneMore l list) (read t).listed h.1)
+beyond_refused halt tells bytes list log before now Disk read h = absurd h
+beyond_refused halt tells bytes list log before now Memory read h = tt
+
+-- ---- what is pending
+
+-- a list that is no other for any transaction is foreign
+pub foreign_of : (halt : Option Halt) (list roll : List (List Operation)) (e : LogError) → IsBeyondRefused list roll e → IsPendingRefused halt list roll e
+foreign_of halt list roll (BadRecord line) h = (h.0, record { not_same = h.1.not_same; not_pending = λ tx is l. h.1.not_more (tx, l) })
+foreign_of halt list roll (Limit which) h = h
+foreign_of halt list roll Disk h = h
+foreign_of halt list roll Memory h = h
+
+-- so is one with another transaction
+pub other_pending : (halt : Option Halt) (list roll : List (List Operation)) (tx : List Operation) → (IsPendingTx halt tx → ⊥) → list ≡ roll ++ tx ∷ [] → IsForeign halt list roll
+other_pending halt list roll tx other is = record {
+  not_same = λ same. longer roll tx (sym same ∙ is);
+  not_pending = λ pending this l. other (subst (IsPendingTx halt) (last_is roll pending tx (sym l ∙ is)) this);
+}

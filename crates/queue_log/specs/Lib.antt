@@ -3,6 +3,7 @@ pub mod Files
 pub mod Logged
 pub mod Logs
 pub mod NewLog
+pub mod Others
 pub mod Reattaching
 pub mod Stands
 pub mod Writable

@@ -1,5 +1,5 @@
 -- A log and its file.
-use Rattle.std.specs.Prelude.{◌≡◌, ◌⊎◌, ◌≤◌, ◌<◌, ℕ, Bool, true, List, [], ◌∷◌, ◌++◌, length, take, Option, Some, None, Result, Ok, Err, IsSome}
+use Rattle.std.specs.Prelude.{◌≡◌, ◌≢◌, ◌⊎◌, ◌≤◌, ◌<◌, ℕ, Bool, true, List, [], ◌∷◌, ◌++◌, length, take, codes, Option, Some, None, Result, Ok, Err, IsSome}
 use Rattle.pool_outer.specs.Cause.{Rose}
 use Rattle.pool_outer.specs.Files.{Contents, Images, Lengths, Leaves, bytes_in}
 use Rattle.pool_outer.specs.declared.limit.Which.TheVariants.{LogLine, Roll}
@@ -8,7 +8,7 @@ use Rattle.receipt_roll.specs.Values.{RollMark, ReceiptValue}
 use Rattle.pool_store.specs.Moments.{LeavesOnly}
 use Rattle.queue_tx.specs.Operations.{Operation}
 use Rattle.queue_tx.specs.Printable.{IsPrintable}
-use Rattle.queue_tx.specs.Queues.{KeyedAds, queue_after}
+use Rattle.queue_tx.specs.Queues.{KeyedAds, QueueOf, queue_after}
 use Rattle.queue_record.specs.Texts.{AreTexts, first_long, tx_text}
 use Rattle.queue_record.specs.ReadSoFar.{start, fed}
 use Rattle.queue_log.specs.declared.error.LogError.{LogError}
@@ -74,6 +74,30 @@ abbrev pub StandsDurably
     : Contents → Lengths → List ℕ → List (List Operation) → Type 0
 StandsDurably file solid name list =
     (image : List ℕ) → Leaves file solid name image → Stands list image
+
+-- ---- the queue of the file, whatever list builds it
+
+-- the bytes stand for some transactions that build this queue
+pub record StandsForQueue (queue : KeyedAds) (bytes : List ℕ) : Type 0 where
+  pub list : List (List Operation)
+  pub stands : Stands list bytes
+  pub builds : QueueOf list queue
+
+-- for this queue, or for the one with a transaction done to it
+abbrev pub StandsForEitherQueue : KeyedAds → List Operation → List ℕ → Type 0
+StandsForEitherQueue queue tx image =
+    StandsForQueue queue image
+    ⊎ ((after : KeyedAds) × (queue_after queue tx ≡ Ok after) × StandsForQueue after image)
+
+-- for a log's queue, or for that with the pending transaction done
+abbrev pub StandsForLogQueue : Option Halt → KeyedAds → List ℕ → Type 0
+StandsForLogQueue None queue image = StandsForQueue queue image
+StandsForLogQueue (Some halt) queue image = StandsForEitherQueue queue halt.pending image
+
+-- a stop leaves of a file what stands for this queue
+abbrev pub KeepsQueue : Contents → Lengths → List ℕ → KeyedAds → Type 0
+KeepsQueue file solid name queue =
+    (image : List ℕ) → Leaves file solid name image → StandsForQueue queue image
 
 -- ---- append
 
@@ -171,6 +195,11 @@ IsRecoverRefused tells bytes before now Disk = Rose before now
 IsRecoverRefused tells bytes before now Memory = Unit {0}
 
 -- ---- another file
+
+-- the name of a file beside the log's: neither that nor the one that the log is written to anew
+pub record IsBeside (log name : List ℕ) : Type 0 where
+  pub other : name ≢ log
+  pub not_new : name ≢ log ++ codes ".tmp"
 
 -- why bytes can't be written beside the log
 abbrev pub IsBesideRefused : ℕ → ℕ → LogError → Type 0

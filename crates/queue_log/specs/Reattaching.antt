@@ -10,7 +10,7 @@ use Rattle.queue_log.specs.declared.error.LogError.{LogError}
 use Rattle.queue_log.specs.declared.error.LogError.TheVariants.{BadRecord, Limit, Disk, Memory}
 use Rattle.queue_log.specs.declared.log.Halt.{Halt}
 use Rattle.queue_log.specs.declared.logged.More.{More}
-use Rattle.queue_log.specs.Logged.{HasOneMore, IsOtherList, with_more}
+use Rattle.queue_log.specs.Logged.{HasOneMore, with_more}
 use Rattle.queue_log.specs.Logs.{LogValue, IsAppended, receipt_of}
 use Rattle.queue_log.specs.Stands.{IsSettled, Stands, bad_line}
 
@@ -29,10 +29,14 @@ abbrev pub with_receipt
 with_receipt list None = list
 with_receipt list (Some receipt) = list ++ receipt.item ∷ []
 
--- it is that of the append that has failed
+-- the transaction of the append that has failed
+abbrev pub IsPendingTx : Option Halt → List Operation → Type 0
+IsPendingTx None tx = ⊥
+IsPendingTx (Some halt) tx = tx ≡ halt.pending
+
+-- its receipt
 abbrev pub IsOfPending : Option Halt → ReceiptValue (List Operation) → Type 0
-IsOfPending None receipt = ⊥
-IsOfPending (Some halt) receipt = receipt.item ≡ halt.pending
+IsOfPending halt receipt = IsPendingTx halt receipt.item
 
 -- What the file stood for, and what is left of it.
 pub record IsFound (halt : Option Halt) (list : List (List Operation)) (old new : List ℕ)
@@ -65,15 +69,29 @@ pub record IsReread (list : List (List Operation)) (old new : List ℕ) (solid :
   pub settled : IsSettled (with_more list more) (fed start old).queue new
   pub durable : length new ≤ solid
 
+-- a list that was read is neither the roll's nor that with the pending transaction
+pub record IsForeign (halt : Option Halt) (list roll : List (List Operation)) : Type 0 where
+  pub not_same : list ≡ roll → ⊥
+  pub not_pending : (tx : List Operation) → IsPendingTx halt tx → list ≡ roll ++ tx ∷ [] → ⊥
+
+-- why what such a list has beyond the roll can't be had
+abbrev pub IsPendingRefused
+    : Option Halt → List (List Operation) → List (List Operation) → LogError → Type 0
+IsPendingRefused halt list roll (BadRecord line) = (line ≡ 0) × IsForeign halt list roll
+IsPendingRefused halt list roll (Limit which) =
+    (which ≡ Roll) × HasOneMore list roll × (MAX_ITEMS ≤ length roll)
+IsPendingRefused halt list roll Disk = ⊥
+IsPendingRefused halt list roll Memory = Unit {0}
+
 -- Why they can't be had: a line of them is bad, or they say another list; the roll is full; the
 -- store has failed; memory has run out.
 abbrev pub IsRereadRefused
-    : Bool → List ℕ → List (List Operation) → ℕ → ℕ → LogError → Type 0
-IsRereadRefused tells bytes list before now (BadRecord line) =
+    : Option Halt → Bool → List ℕ → List (List Operation) → ℕ → ℕ → LogError → Type 0
+IsRereadRefused halt tells bytes list before now (BadRecord line) =
     tells ≡ true
-    → (bad_line bytes ≡ Some line) ⊎ ((line ≡ 0) × IsOtherList (fed start bytes).list list)
-IsRereadRefused tells bytes list before now (Limit which) =
+    → (bad_line bytes ≡ Some line) ⊎ ((line ≡ 0) × IsForeign halt (fed start bytes).list list)
+IsRereadRefused halt tells bytes list before now (Limit which) =
     (which ≡ Roll) × (MAX_ITEMS ≤ length list)
     × (tells ≡ true → HasOneMore (fed start bytes).list list)
-IsRereadRefused tells bytes list before now Disk = Rose before now
-IsRereadRefused tells bytes list before now Memory = Unit {0}
+IsRereadRefused halt tells bytes list before now Disk = Rose before now
+IsRereadRefused halt tells bytes list before now Memory = Unit {0}

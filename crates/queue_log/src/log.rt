@@ -1,15 +1,16 @@
-ghost use Rattle.std.specs.Prelude.{◌≡◌, ◌≢◌, ◌<◌, ◌++◌, ◌∷◌, [], ℕ, List, true, None, Some, Ok, Err, length, IsOk, IfOk, IfErr, OnOk, slice_get};
+ghost use Rattle.std.specs.Prelude.{◌≡◌, ◌≢◌, ◌<◌, ◌≤◌, ◌++◌, ◌∷◌, [], ℕ, List, true, None, Some, Ok, Err, length, IsOk, IfOk, IfErr, OnOk, is_some, slice_get};
 ghost use Rattle.receipt_roll.specs.declared.roll.TheConstants.{MAX_ITEMS};
 ghost use Rattle.pool_outer.specs.Cause.{HasCause};
 ghost use Rattle.pool_outer.specs.declared.store.StoreError.TheVariants.{Failed};
-ghost use Rattle.pool_outer.specs.Files.{bytes_in, Leaves};
+ghost use Rattle.pool_outer.specs.Files.{bytes_in, Leaves, SameOthers};
 ghost use Rattle.queue_tx.specs.Operations.{Operation};
 ghost use Rattle.queue_tx.specs.Printable.{HasPrintableKeys, IsPrintable};
 ghost use Rattle.queue_tx.specs.Queues.{KeyedAds, QueueOf, queue_after};
 ghost use Rattle.queue_record.specs.Texts.{first_long, tx_text};
 ghost use Rattle.pool_store.specs.Moments.{LeavesOnly};
 ghost use Rattle.queue_log.specs.declared.log.Halt.{Halt};
-ghost use Rattle.queue_log.specs.Logs.{IsAppended, IsAppendRefused, IsTorn, IsWhole, StandsDurably, StandsForLog, receipt_of};
+ghost use Rattle.queue_log.specs.Logs.{IsAppended, IsAppendRefused, IsTorn, IsWhole, KeepsQueue, StandsDurably, StandsForEitherQueue, StandsForLog, StandsForLogQueue, receipt_of};
+ghost use Rattle.queue_log.specs.Others.{KeepsOthers};
 ghost use Rattle.queue_log.specs.Stands.{IsBeforeOrAfter};
 ghost use Rattle.queue_log.specs.Writable.{IsWritableQueue};
 
@@ -108,6 +109,9 @@ impl<D: Store> Log<D> {
         ensures images { D.tells self.now.store ≡ true → (image : List ℕ)
             → Leaves (D.file self.now.store) (D.solid self.now.store) self.now.name image
             → StandsForLog self.now.halt self.now.list image }
+        ensures images_queue { D.tells self.now.store ≡ true → (image : List ℕ)
+            → Leaves (D.file self.now.store) (D.solid self.now.store) self.now.name image
+            → StandsForLogQueue self.now.halt self.now.queue image }
     {
         self.logged.roll()
     }
@@ -120,6 +124,14 @@ impl<D: Store> Log<D> {
         ensures item { slice_get self.old.list receipt.now.number ≡ Some receipt.now.item }
     {
         self.logged.confirm(receipt);
+    }
+
+    /// Whether an append has failed since which the log was not reattached. Computes in O(1),
+    /// without memory.
+    pub fn is_halted(&self) -> bool
+        ensures { result ≡ is_some self.now.halt }
+    {
+        self.halt.is_some()
     }
 
     /// The store. Computes in O(1), without memory.
@@ -155,10 +167,28 @@ impl<D: Store> Log<D> {
         ensures any_moment { self.old.halt ≡ None → D.tells self.old.store ≡ true
             → LeavesOnly D.moment D.left_since self.old.name self.old.store self.new.store
             (IsBeforeOrAfter self.old.list tx) }
+        ensures any_moment_queue { self.old.halt ≡ None → D.tells self.old.store ≡ true
+            → LeavesOnly D.moment D.left_since self.old.name self.old.store self.new.store
+            (StandsForEitherQueue self.old.queue tx) }
         ensures durable { D.tells self.old.store ≡ true
             → OnOk result (StandsDurably (D.file self.new.store) (D.solid self.new.store)
             self.new.name self.new.list) }
+        ensures durable_queue { D.tells self.old.store ≡ true
+            → OnOk result (KeepsQueue (D.file self.new.store) (D.solid self.new.store)
+            self.new.name self.new.queue) }
+
+        // The store's other files, the names that it knows, and its faults.
+        ensures others { D.tells self.old.store ≡ true
+            → SameOthers self.old.name (D.file self.old.store) (D.file self.new.store)
+            (D.solid self.old.store) (D.solid self.new.store) }
+        ensures quiet { D.tells self.old.store ≡ true → (other : List ℕ) → other ≢ self.old.name
+            → LeavesOnly D.moment D.left_since other self.old.store self.new.store
+            (Leaves (D.file self.old.store) (D.solid self.old.store) other) }
+        ensures known { (other : List ℕ) → D.known self.old.store other ≡ true
+            → D.known self.new.store other ≡ true }
         ensures told { D.tells self.new.store ≡ D.tells self.old.store }
+        ensures later { D.faults self.old.store ≤ D.faults self.new.store }
+        ensures steady { OnOk result (D.faults self.new.store ≡ D.faults self.old.store) }
     {
         if let Some(halt) = &self.halt {
             return Err(halt.error);
@@ -209,6 +239,8 @@ fn write_tx<D: Store>(
         → queue_after queue tx.now ≡ Ok after
         → LeavesOnly D.moment D.left_since name.now store.old store.new
         (IsBeforeOrAfter list tx.now) }
+    ensures others { D.tells store.old ≡ true
+        → KeepsOthers D.file D.solid D.moment D.left_since name.now store.old store.new }
 
     ensures present { result ≢ Err StoreError.Missing }
     ensures known { (other : List ℕ) → D.known store.old other ≡ true

@@ -7,6 +7,7 @@ ghost use Rattle.queue_record.specs.ReadSoFar.{start, fed};
 ghost use Rattle.pool_store.specs.Moments.{KeepsFile};
 ghost use Rattle.queue_log.specs.Files.{IsReadOf, IsReadRefusal, IsSound, MeetsBadLine};
 ghost use Rattle.queue_log.specs.Logged.{IsLogged};
+ghost use Rattle.queue_log.specs.Others.{KeepsOthers};
 ghost use Rattle.queue_log.specs.Stands.{bad_line};
 
 use crate::error::LogError;
@@ -39,6 +40,8 @@ pub(crate) fn read_log<D: Store>(
     // The file.
     ensures keeps { D.tells store.old ≡ true
         → KeepsFile D.file D.solid D.moment D.left_since name.now store.old store.new }
+    ensures others { D.tells store.old ≡ true
+        → KeepsOthers D.file D.solid D.moment D.left_since name.now store.old store.new }
     ensures solid { D.tells store.old ≡ true → OnOk result (size ≤ D.solid store.new name.now) }
     ensures small { D.tells store.old ≡ true
         → OnOk result (length (bytes_in (D.file store.old name.now)) < 2 ^ 64) }
@@ -48,6 +51,7 @@ pub(crate) fn read_log<D: Store>(
         → D.known store.new other ≡ true }
     ensures told { D.tells store.new ≡ D.tells store.old }
     ensures later { D.faults store.old ≤ D.faults store.new }
+    ensures steady { OnOk result (D.faults store.new ≡ D.faults store.old) }
 {
     if let Err(error) = store.sync(alloc, name) {
         return Err(LogError::from(error));
@@ -82,10 +86,13 @@ fn read_pieces<D: Store>(
 
     ensures keeps { D.tells store.old ≡ true
         → KeepsFile D.file D.solid D.moment D.left_since name.now store.old store.new }
+    ensures others { D.tells store.old ≡ true
+        → KeepsOthers D.file D.solid D.moment D.left_since name.now store.old store.new }
     ensures known { (other : List ℕ) → D.known store.old other ≡ true
         → D.known store.new other ≡ true }
     ensures told { D.tells store.new ≡ D.tells store.old }
     ensures later { D.faults store.old ≤ D.faults store.new }
+    ensures steady { OnOk result (D.faults store.new ≡ D.faults store.old) }
 {
     let Ok(mut piece) = zeros(alloc, PIECE) else {
         return Err(LogError::Memory);
@@ -137,10 +144,13 @@ fn read_piece<D: Store>(
 
     ensures keeps { D.tells store.old ≡ true
         → KeepsFile D.file D.solid D.moment D.left_since name.now store.old store.new }
+    ensures others { D.tells store.old ≡ true
+        → KeepsOthers D.file D.solid D.moment D.left_since name.now store.old store.new }
     ensures known { (other : List ℕ) → D.known store.old other ≡ true
         → D.known store.new other ≡ true }
     ensures told { D.tells store.new ≡ D.tells store.old }
     ensures later { D.faults store.old ≤ D.faults store.new }
+    ensures steady { OnOk result (D.faults store.new ≡ D.faults store.old) }
 {
     let count = match store.read_at(alloc, name, place, piece) {
         Ok(count) => count,

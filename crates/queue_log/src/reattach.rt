@@ -1,24 +1,26 @@
 // Going on with the log's file after a crash of its daemon.
 
-ghost use Rattle.std.specs.Prelude.{◌≡◌, ◌⊎◌, ◌<◌, ◌≤◌, ◌^◌, ℕ, List, true, None, Some, length, IfOk, IfErr, IfSome, OnOk, OnErr};
+ghost use Rattle.std.specs.Prelude.{◌≡◌, ◌≢◌, ◌⊎◌, ◌↔◌, ◌<◌, ◌≤◌, ◌^◌, ℕ, List, true, None, Some, length, IsTrue, IfOk, IfErr, IfSome, OnOk, OnErr};
 ghost use Rattle.std.specs.Option.{option_map};
-ghost use Rattle.pool_outer.specs.Files.{bytes_in, Leaves};
+ghost use Rattle.pool_outer.specs.Files.{bytes_in, Leaves, SameOthers};
 ghost use Rattle.pool_store.specs.Moments.{KeepsFile, LeavesOnly};
 ghost use Rattle.receipt_roll.specs.declared.roll.TheConstants.{MAX_ITEMS};
 ghost use Rattle.queue_log.specs.Files.{IsReadOf, IsReadRefusal};
-ghost use Rattle.queue_log.specs.Logged.{IsLogged, IsNext};
-ghost use Rattle.queue_log.specs.Logs.{StandsDurably, StandsForLog};
-ghost use Rattle.queue_log.specs.Reattaching.{IsFound, IsReattached, IsReattachRefused, IsReread, IsRereadRefused};
+ghost use Rattle.queue_log.specs.Logged.{IsBeyond, IsLogged, IsNext};
+ghost use Rattle.queue_log.specs.Logs.{KeepsQueue, StandsDurably, StandsForLog, StandsForLogQueue, StandsForQueue};
+ghost use Rattle.queue_log.specs.Others.{KeepsOthers};
+ghost use Rattle.queue_log.specs.Reattaching.{IsFound, IsOfPending, IsPendingRefused, IsPendingTx, IsReattached, IsReattachRefused, IsReread, IsRereadRefused};
 ghost use Rattle.queue_log.specs.Stands.{bad_line};
 
 use crate::error::LogError;
-use crate::log::Log;
+use crate::log::{Halt, Log};
 use crate::logged::{Logged, More};
 use crate::read::read_log;
+use crate::same::is_same_tx;
 use pool_outer::Store;
 use pool_store::cut_after;
 use queue_record::ReadLog;
-use queue_tx::Tx;
+use queue_tx::{Queue, Tx, TxList};
 use receipt_roll::Receipt;
 use std::alloc::Global;
 
@@ -29,9 +31,9 @@ impl<D: Store> Log<D> {
     /// queue, and its receipt is handed out.
     ///
     /// `BadRecord` has the first bad line, from 1, or line 0 where the file differs from what the
-    /// log wrote; `Limit` says that the roll has no room for what stayed. After an error the log is
-    /// as it was: one that was halted still is. Computes in O(bytes of the file), and in the time
-    /// of the transactions.
+    /// log wrote, or has a further transaction that isn't that of the failed append; `Limit` says
+    /// that the roll has no room for what stayed. After an error the log is as it was: one that was
+    /// halted still is. Computes in O(bytes of the file), and in the time of the transactions.
     pub fn reattach(&mut self, alloc: Global) -> Result<Option<Receipt<Tx>>, LogError>
         // What it gives.
         ensures reattached { IfOk result (IsReattached self.old self.new) }
@@ -39,6 +41,9 @@ impl<D: Store> Log<D> {
             (IsFound self.old.halt self.old.list
             (bytes_in (D.file self.old.store self.old.name))
             (bytes_in (D.file self.new.store self.new.name))) }
+        ensures found_queue { D.tells self.old.store ≡ true → OnOk result
+            (StandsForQueue self.new.queue (bytes_in (D.file self.old.store self.old.name))) }
+        ensures pending { IfOk result (λ kept. IfSome kept (IsOfPending self.old.halt)) }
         ensures within { IfOk result
             (λ kept. IfSome kept (λ _. length self.old.list < MAX_ITEMS)) }
 
@@ -55,12 +60,36 @@ impl<D: Store> Log<D> {
         ensures any_moment { D.tells self.old.store ≡ true
             → LeavesOnly D.moment D.left_since self.old.name self.old.store self.new.store
             (StandsForLog self.old.halt self.old.list) }
+        ensures any_moment_queue { D.tells self.old.store ≡ true
+            → LeavesOnly D.moment D.left_since self.old.name self.old.store self.new.store
+            (StandsForLogQueue self.old.halt self.old.queue) }
         ensures durable { D.tells self.old.store ≡ true
             → OnOk result (StandsDurably (D.file self.new.store) (D.solid self.new.store)
             self.new.name self.new.list) }
+        ensures durable_queue { D.tells self.old.store ≡ true
+            → OnOk result (KeepsQueue (D.file self.new.store) (D.solid self.new.store)
+            self.new.name self.new.queue) }
+
+        // The store's other files, the names that it knows, and its faults.
+        ensures others { D.tells self.old.store ≡ true
+            → SameOthers self.old.name (D.file self.old.store) (D.file self.new.store)
+            (D.solid self.old.store) (D.solid self.new.store) }
+        ensures quiet { D.tells self.old.store ≡ true → (other : List ℕ) → other ≢ self.old.name
+            → LeavesOnly D.moment D.left_since other self.old.store self.new.store
+            (Leaves (D.file self.old.store) (D.solid self.old.store) other) }
+        ensures known { (other : List ℕ) → D.known self.old.store other ≡ true
+            → D.known self.new.store other ≡ true }
         ensures told { D.tells self.new.store ≡ D.tells self.old.store }
+        ensures later { D.faults self.old.store ≤ D.faults self.new.store }
+        ensures steady { OnOk result (D.faults self.new.store ≡ D.faults self.old.store) }
     {
-        let more = match reread(alloc, &mut self.store, self.name.as_str(), &mut self.logged) {
+        let more = match reread(
+            alloc,
+            &mut self.store,
+            self.name.as_str(),
+            &self.halt,
+            &mut self.logged,
+        ) {
             Ok(more) => more,
             Err(error) => return Err(error),
         };
@@ -72,11 +101,13 @@ impl<D: Store> Log<D> {
     }
 }
 
-// Reads what a file has beyond the roll, and cuts what follows its last whole transaction.
+// Reads what a file has beyond the roll, the transaction of a failed append or nothing, and cuts
+// what follows its last whole transaction.
 fn reread<D: Store>(
     alloc: Global,
     store: &mut D,
     name: &str,
+    halt: &Option<Halt>,
     logged: &mut Logged,
 ) -> Result<Option<More>, LogError>
     requires { D.known store.old name.now ≡ true }
@@ -87,7 +118,8 @@ fn reread<D: Store>(
         (bytes_in (D.file store.new name.now)) (D.solid store.new name.now)) }
     ensures next { IfOk result
         (λ more. IfSome more (IsNext logged.old.list logged.old.queue logged.new.spare)) }
-    ensures refused { IfErr result (IsRereadRefused (D.tells store.old)
+    ensures pending { IfOk result (λ more. IfSome more (λ m. IsPendingTx halt.now m.tx)) }
+    ensures refused { IfErr result (IsRereadRefused halt.now (D.tells store.old)
         (bytes_in (D.file store.old name.now)) logged.old.list
         (D.faults store.old) (D.faults store.new)) }
 
@@ -96,7 +128,7 @@ fn reread<D: Store>(
     ensures queue { logged.new.queue ≡ logged.old.queue }
     ensures mark { logged.new.mark ≡ logged.old.mark }
 
-    // The file.
+    // The files.
     ensures same { D.tells store.old ≡ true
         → OnErr result (D.file store.new name.now ≡ D.file store.old name.now) }
     ensures no_less { D.tells store.old ≡ true
@@ -105,11 +137,15 @@ fn reread<D: Store>(
         → LeavesOnly D.moment D.left_since name.now store.old store.new
         (λ image. Leaves (D.file store.old) (D.solid store.old) name.now image
         ⊎ Leaves (D.file store.new) (D.solid store.new) name.now image) }
+    ensures others { D.tells store.old ≡ true
+        → KeepsOthers D.file D.solid D.moment D.left_since name.now store.old store.new }
 
-    // The names, and what the store tells.
+    // The names, what the store tells, and its faults.
     ensures known { (other : List ℕ) → D.known store.old other ≡ true
         → D.known store.new other ≡ true }
     ensures told { D.tells store.new ≡ D.tells store.old }
+    ensures later { D.faults store.old ≤ D.faults store.new }
+    ensures steady { OnOk result (D.faults store.new ≡ D.faults store.old) }
 {
     let (size, read) = match read_again(alloc, store, name) {
         Ok(again) => again,
@@ -121,13 +157,60 @@ fn reread<D: Store>(
         whole,
         ..
     } = read;
-    let more = match logged.beyond(alloc, list, queue) {
+    let more = match pending_beyond(alloc, logged, halt, list, queue) {
         Ok(more) => more,
         Err(error) => return Err(error),
     };
     match cut_after(alloc, store, name, size, whole) {
         Ok(()) => Ok(more),
         Err(error) => Err(LogError::from(error)),
+    }
+}
+
+// What a list that was read has beyond the roll: the transaction of a failed append, or nothing.
+fn pending_beyond(
+    alloc: Global,
+    logged: &mut Logged,
+    halt: &Option<Halt>,
+    list: TxList,
+    queue: Queue,
+) -> Result<Option<More>, LogError>
+    requires { IsLogged list queue }
+
+    // What there is.
+    ensures beyond { IfOk result (IsBeyond list queue logged.old.list) }
+    ensures next { IfOk result
+        (λ more. IfSome more (IsNext logged.old.list logged.old.queue logged.new.spare)) }
+    ensures pending { IfOk result (λ more. IfSome more (λ m. IsPendingTx halt.now m.tx)) }
+    ensures refused { IfErr result (IsPendingRefused halt.now list logged.old.list) }
+
+    // What is logged.
+    ensures list { logged.new.list ≡ logged.old.list }
+    ensures queue { logged.new.queue ≡ logged.old.queue }
+    ensures mark { logged.new.mark ≡ logged.old.mark }
+{
+    let more = match logged.beyond(alloc, list, queue) {
+        Ok(more) => more,
+        Err(error) => return Err(error),
+    };
+    match more {
+        None => Ok(None),
+        Some(more) => {
+            if is_pending(halt, &more.tx) {
+                Ok(Some(more))
+            } else {
+                Err(LogError::BadRecord { line: 0 })
+            }
+        }
+    }
+}
+
+fn is_pending(halt: &Option<Halt>, tx: &Tx) -> bool
+    ensures { IsTrue result ↔ IsPendingTx halt.now tx.now }
+{
+    match halt {
+        Some(halt) => is_same_tx(tx, &halt.pending),
+        None => false,
     }
 }
 
@@ -153,15 +236,18 @@ fn read_again<D: Store>(
         → bad_line (bytes_in (D.file store.old name.now)) ≡ Some line)
         (D.faults store.old) (D.faults store.new)) }
 
-    // The file.
+    // The files.
     ensures keeps { D.tells store.old ≡ true
         → KeepsFile D.file D.solid D.moment D.left_since name.now store.old store.new }
+    ensures others { D.tells store.old ≡ true
+        → KeepsOthers D.file D.solid D.moment D.left_since name.now store.old store.new }
 
     // The names, what the store tells, and its faults.
     ensures known { (other : List ℕ) → D.known store.old other ≡ true
         → D.known store.new other ≡ true }
     ensures told { D.tells store.new ≡ D.tells store.old }
     ensures later { D.faults store.old ≤ D.faults store.new }
+    ensures steady { OnOk result (D.faults store.new ≡ D.faults store.old) }
 {
     let size = match store.size(alloc, name) {
         Ok(size) => size,

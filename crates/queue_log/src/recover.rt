@@ -1,11 +1,12 @@
-ghost use Rattle.std.specs.Prelude.{◌≡◌, ◌<◌, ◌≤◌, ℕ, List, true, None, Some, length, IfOk, IfErr, OnOk, OnErr, string_bytes};
+ghost use Rattle.std.specs.Prelude.{◌≡◌, ◌≢◌, ◌<◌, ◌≤◌, ℕ, List, true, None, Some, length, IfOk, IfErr, OnOk, OnErr, string_bytes};
 ghost use Rattle.std.specs.Option.{option_map};
 ghost use Rattle.pool_outer.specs.declared.clock.TheConstants.{LAST_READING};
-ghost use Rattle.pool_outer.specs.Files.{bytes_in};
+ghost use Rattle.pool_outer.specs.Files.{bytes_in, Leaves, SameOthers};
 ghost use Rattle.pool_store.specs.Moments.{LeavesOnly};
 ghost use Rattle.queue_log.specs.Logged.{IsLogged, IsTooMany};
 ghost use Rattle.queue_log.specs.NewLog.{new_log_text};
 ghost use Rattle.queue_log.specs.Logs.{IsBegun, IsOpened, IsRecovered, IsRecoverRefused, IsUncut, LeavesOpening, StandsForOpening, recovered_store};
+ghost use Rattle.queue_log.specs.Others.{IsSurelyThere, KeepsOthers};
 
 use crate::error::LogError;
 use crate::log::Log;
@@ -71,7 +72,6 @@ impl<D: Store> Log<D> {
         ensures recovered { D.tells store ≡ true → IfOk result (λ log. IsRecovered
             (bytes_in (D.file store name.now)) (bytes_in (D.file log.store name.now)) reading
             log.list log.queue log.sequence) }
-        ensures told { D.tells (recovered_store result) ≡ D.tells store }
 
         // When it is refused, and what is then left.
         ensures refused { IfErr result (λ p. IsRecoverRefused (D.tells store)
@@ -87,6 +87,20 @@ impl<D: Store> Log<D> {
         ensures any_moment_unsynced { D.tells store ≡ true
             → LeavesOpening D.file D.solid D.moment D.left_since name.now reading store
             (recovered_store result) }
+
+        // The store's other files, the names that it knows, and its faults.
+        ensures others { D.tells store ≡ true
+            → SameOthers name.now (D.file store) (D.file (recovered_store result))
+            (D.solid store) (D.solid (recovered_store result)) }
+        ensures quiet { D.tells store ≡ true → (other : List ℕ) → other ≢ name.now
+            → LeavesOnly D.moment D.left_since other store (recovered_store result)
+            (Leaves (D.file store) (D.solid store) other) }
+        ensures known { (other : List ℕ) → D.known store other ≡ true
+            → D.known (recovered_store result) other ≡ true }
+        ensures told { D.tells (recovered_store result) ≡ D.tells store }
+        ensures later { D.faults store ≤ D.faults (recovered_store result) }
+        ensures steady { IsSurelyThere (D.tells store) (D.file store) (D.known store) name.now
+            → OnOk result (D.faults (recovered_store result) ≡ D.faults store) }
     {
         match begin_or_resume(alloc, &mut store, name, reading) {
             Ok(opening) => {
@@ -120,8 +134,16 @@ fn begin_or_resume<D: Store>(
         (bytes_in (D.file store.old name.now)) (bytes_in (D.file store.new name.now)) reading) }
     ensures any_moment { D.tells store.old ≡ true
         → LeavesOpening D.file D.solid D.moment D.left_since name.now reading store.old store.new }
+    ensures others { D.tells store.old ≡ true
+        → KeepsOthers D.file D.solid D.moment D.left_since name.now store.old store.new }
+
     ensures known { OnOk result (D.known store.new name.now ≡ true) }
+    ensures stays { (other : List ℕ) → D.known store.old other ≡ true
+        → D.known store.new other ≡ true }
     ensures told { D.tells store.new ≡ D.tells store.old }
+    ensures later { D.faults store.old ≤ D.faults store.new }
+    ensures steady { IsSurelyThere (D.tells store.old) (D.file store.old) (D.known store.old)
+        name.now → OnOk result (D.faults store.new ≡ D.faults store.old) }
 {
     match store.size(alloc, name) {
         Ok(0) => begin(alloc, store, name, reading),
@@ -154,9 +176,14 @@ fn resume<D: Store>(
         (bytes_in (D.file store.new name.now) ≡ bytes_in (D.file store.old name.now)) }
     ensures any_moment { D.tells store.old ≡ true → (reading : ℕ)
         → LeavesOpening D.file D.solid D.moment D.left_since name.now reading store.old store.new }
+    ensures others { D.tells store.old ≡ true
+        → KeepsOthers D.file D.solid D.moment D.left_since name.now store.old store.new }
+
     ensures known { (other : List ℕ) → D.known store.old other ≡ true
         → D.known store.new other ≡ true }
     ensures told { D.tells store.new ≡ D.tells store.old }
+    ensures later { D.faults store.old ≤ D.faults store.new }
+    ensures steady { OnOk result (D.faults store.new ≡ D.faults store.old) }
 {
     let ReadLog {
         list,
@@ -197,8 +224,15 @@ fn begin<D: Store>(
         (bytes_in (D.file store.old name.now)) (bytes_in (D.file store.new name.now)) reading) }
     ensures any_moment { D.tells store.old ≡ true
         → LeavesOpening D.file D.solid D.moment D.left_since name.now reading store.old store.new }
+    ensures others { D.tells store.old ≡ true
+        → KeepsOthers D.file D.solid D.moment D.left_since name.now store.old store.new }
+
     ensures known { OnOk result (D.known store.new name.now ≡ true) }
+    ensures stays { (other : List ℕ) → D.known store.old other ≡ true
+        → D.known store.new other ≡ true }
     ensures told { D.tells store.new ≡ D.tells store.old }
+    ensures later { D.faults store.old ≤ D.faults store.new }
+    ensures steady { OnOk result (D.faults store.new ≡ D.faults store.old) }
 {
     let Ok((text, opening)) = new_opening(alloc, name, reading) else {
         return Err(LogError::Memory);

@@ -21,7 +21,7 @@ pub(crate) fn is_same_list(a: &[Tx], b: &[Tx]) -> bool
     true
 }
 
-fn is_same_tx(a: &Tx, b: &Tx) -> bool
+pub(crate) fn is_same_tx(a: &Tx, b: &Tx) -> bool
     ensures { IsTrue result ↔ (a.now ≡ b.now) }
 {
     let (ops, others) = (a.ops(), b.ops());

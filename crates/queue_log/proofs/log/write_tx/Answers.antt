@@ -52,3 +52,6 @@ returns-clause-any_moment g c tells list queue after w done =
     subst (λ (z : List ℕ). LeavesOnly m.moment m.left_since n old new (IsReached (m.solid old n) (bytes_in (m.file old n)) z)) text (c.append_solid.ensures.any_moment tells) in
     weaker m.moment m.left_since n old new (IsReached (m.solid old n) (bytes_in (m.file old n)) (tx_text tx)) (IsBeforeOrAfter list tx) reached
     (λ image r. reached_stands list queue tx (bytes_in (m.file old n)) image (m.solid old n) w.settled w.durable p r)
+
+pub returns-clause-others : goal.returns-clause-others
+returns-clause-others g c tells = record { same = c.append_solid.ensures.others tells; quiet = c.append_solid.ensures.quiet tells }

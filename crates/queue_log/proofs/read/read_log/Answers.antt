@@ -1,7 +1,8 @@
-use Rattle.std.proofs.Common.{◌≡◌, ◌∙◌, true, Some, ap, sym, subst, arith}
+use Rattle.std.proofs.Common.{◌≡◌, ◌∙◌, true, Some, ap, sym, subst, arith, refl}
 use Rattle.pool_outer.specs.Files.{bytes_in}
 use Rattle.queue_record.specs.ReadSoFar.{ReadSoFar, start, fed}
 use Rattle.pool_store.proofs.Moments.{keeps_both, keeps_sync}
+use Rattle.queue_log.proofs.Others.{others_both, others_call}
 use Rattle.queue_log.proofs.Pieces.{size_of}
 use Rattle.queue_log.proofs.Refusals.{not_missed, refusal_on, store_refused}
 use Rattle.queue_log.specs.Stands.{bad_line}
@@ -20,11 +21,13 @@ returns-in-Err g c =
       refused = store_refused (λ line. m.tells old ≡ true → bad_line (bytes_in (m.file old name)) ≡ Some line) (m.faults old) (m.faults old) (m.faults new) c.in-Err.error c.from.result (omega arith) c.from.ensures
           (not_missed (m.tells old) (m.file old) (m.known old) name c.in-Err.error c.requires.known c.in-Err.ensures.missing) c.in-Err.ensures.cause;
       keeps = λ tells. keeps_sync m.file m.solid m.moment m.left_since name old new c.sync.result (λ image left. g.met.D.Store.only_now old name image tells left) (e.syncs tells) (e.time tells);
+      others = λ tells. others_call m.file m.solid m.moment m.left_since name old new (λ other image left. g.met.D.Store.only_now old other image tells left) (e.syncs tells).others (e.time tells);
       solid = λ tells. tt;
       small = λ tells. tt;
       known = λ other k. e.known.stays other k;
       told = e.told;
       later = e.cause.later;
+      steady = tt;
     }
 
 pub returns-in-Err-read_pieces : goal.returns-in-Err-read_pieces
@@ -47,11 +50,13 @@ returns-in-Err-read_pieces g c =
           s.cause.later c.in-Err-read_pieces.ensures.refused;
       keeps = λ tells. keeps_both m.file m.solid m.moment m.left_since name old mid new
           (keeps_sync m.file m.solid m.moment m.left_since name old mid c.sync.result (λ image left. g.met.D.Store.only_now old name image tells left) (s.syncs tells) (s.time tells)) (e.keeps (s.told ∙ tells));
+      others = λ tells. others_both m.file m.solid m.moment m.left_since name old mid new (others_call m.file m.solid m.moment m.left_since name old mid (λ other image left. g.met.D.Store.only_now old other image tells left) (s.syncs tells).others (s.time tells)) (e.others (s.told ∙ tells));
       solid = λ tells. tt;
       small = λ tells. tt;
       known = λ other k. e.known other (s.known.stays other k);
       told = e.told ∙ s.told;
       later = let a = e.later in let b = s.cause.later in omega arith;
+      steady = tt;
     }
 
 pub returns-in-Ok : goal.returns-in-Ok
@@ -81,6 +86,7 @@ returns-in-Ok g c =
       refused = tt;
       keeps = λ tells. keeps_both m.file m.solid m.moment m.left_since name old mid new
           (keeps_sync m.file m.solid m.moment m.left_since name old mid c.sync.result (λ image left. g.met.D.Store.only_now old name image tells left) (c.sync.ensures.syncs tells) (s.time tells)) (e.keeps (s.told ∙ tells));
+      others = λ tells. others_both m.file m.solid m.moment m.left_since name old mid new (others_call m.file m.solid m.moment m.left_since name old mid (λ other image left. g.met.D.Store.only_now old other image tells left) (s.syncs tells).others (s.time tells)) (e.others (s.told ∙ tells));
       solid = λ tells.
           let long = size tells in
           let durable = (s.syncs tells).durable in
@@ -90,4 +96,5 @@ returns-in-Ok g c =
       known = λ other k. e.known other (s.known.stays other k);
       told = e.told ∙ s.told;
       later = let a = e.later in let b = s.cause.later in omega arith;
+      steady = e.steady ∙ s.cause.quiet refl;
     }

@@ -3,6 +3,7 @@ use Rattle.pool_outer.specs.Files.{bytes_in}
 use Rattle.pool_store.proofs.Moments.{keeps_both, keeps_none}
 use Rattle.queue_log.specs.Files.{IsSound, MeetsBadLine}
 use Rattle.queue_log.specs.Stands.{bad_line}
+use Rattle.queue_log.proofs.Others.{others_both, others_none}
 use Rattle.queue_log.proofs.Pieces.{bad_line_met, reads_all, reads_on, size_of}
 use Rattle.queue_log.proofs.Refusals.{refusal_on}
 use Rattle.queue_log.proofs.Sound.{sound_fed, sound_start}
@@ -20,9 +21,11 @@ pieces-init g c =
       read = λ tells. c.requires.new;
       within = λ tells. omega arith;
       keeps = λ tells. keeps_none m.file m.solid m.moment m.left_since name old (λ image left. g.met.D.Store.only_now old name image tells left);
+      others = λ tells. others_none m.file m.solid m.moment m.left_since name old (λ other image left. g.met.D.Store.only_now old other image tells left);
       known = λ other k. k;
       told = refl;
       later = omega arith;
+      steady = refl;
     }
 
 pub returns-in_default : goal.returns-in_default
@@ -36,9 +39,11 @@ returns-in_default g c =
       read = λ tells. tt;
       refused = tt;
       keeps = λ tells. keeps_none m.file m.solid m.moment m.left_since name old (λ image left. g.met.D.Store.only_now old name image tells left);
+      others = λ tells. others_none m.file m.solid m.moment m.left_since name old (λ other image left. g.met.D.Store.only_now old other image tells left);
       known = λ other k. k;
       told = refl;
       later = omega arith;
+      steady = tt;
     }
 
 pub returns-in-Err : goal.returns-in-Err
@@ -61,9 +66,11 @@ returns-in-Err g c =
           (subst (λ f. MeetsBadLine c.pieces.reader (bytes_in f) c.pieces.place line) (inv.keeps tells).same (bad (inv.told ∙ tells))))
           inv.later c.in-Err.ensures.refused;
       keeps = λ tells. keeps_both m.file m.solid m.moment m.left_since name old mid c.read_piece.new.store (inv.keeps tells) (e.keeps (inv.told ∙ tells));
+      others = λ tells. others_both m.file m.solid m.moment m.left_since name old mid c.read_piece.new.store (inv.others tells) (e.others (inv.told ∙ tells));
       known = λ other k. e.known other (inv.known other k);
       told = e.told ∙ inv.told;
       later = let a = e.later in let b = inv.later in omega arith;
+      steady = tt;
     }
 
 pub returns-then-count-eq0 : goal.returns-then-count-eq0
@@ -84,9 +91,11 @@ returns-then-count-eq0 g c =
           absurd (omega arith);
       refused = tt;
       keeps = λ tells. keeps_both m.file m.solid m.moment m.left_since name old mid c.read_piece.new.store (inv.keeps tells) (e.keeps (inv.told ∙ tells));
+      others = λ tells. others_both m.file m.solid m.moment m.left_since name old mid c.read_piece.new.store (inv.others tells) (e.others (inv.told ∙ tells));
       known = λ other k. e.known other (inv.known other k);
       told = e.told ∙ inv.told;
       later = let a = e.later in let b = inv.later in omega arith;
+      steady = e.steady ∙ inv.steady;
     }
 
 -- a buffer that is written to keeps some length
@@ -120,9 +129,11 @@ pieces-preserved g c =
       read = λ tells. (on tells).0;
       within = λ tells. (on tells).1;
       keeps = λ tells. keeps_both m.file m.solid m.moment m.left_since name old mid c.read_piece.new.store (inv.keeps tells) (c.read_piece.ensures.keeps (inv.told ∙ tells));
+      others = λ tells. others_both m.file m.solid m.moment m.left_since name old mid c.read_piece.new.store (inv.others tells) (c.read_piece.ensures.others (inv.told ∙ tells));
       known = λ other k. c.read_piece.ensures.known other (inv.known other k);
       told = c.read_piece.ensures.told ∙ inv.told;
       later = let a = c.read_piece.ensures.later in let b = inv.later in omega arith;
+      steady = e.steady ∙ inv.steady;
     }
 
 pub returns : goal.returns
@@ -138,7 +149,9 @@ returns g c =
           reads_all c.pieces.reader (bytes_in (m.file c.args.store.now name)) c.pieces.place (inv.read tells) (omega arith);
       refused = tt;
       keeps = inv.keeps;
+      others = inv.others;
       known = inv.known;
       told = inv.told;
       later = inv.later;
+      steady = inv.steady;
     }

@@ -4,6 +4,7 @@ use Rattle.pool_store.proofs.Moments.{keeps_none}
 use Rattle.queue_log.specs.NewLog.{new_log_text}
 use Rattle.queue_log.specs.Stands.{bad_line}
 use Rattle.queue_log.proofs.Opened.{begun_by, nothing_before, read_refused}
+use Rattle.queue_log.proofs.Others.{others_none}
 use Rattle.queue_log.proofs.Recovery.{begun_opening, kept_opening, uncut_part, uncut_same}
 use Rattle.queue_log.proofs.Refusals.{store_refused}
 use Rattle.queue_log.proofs.recover.begin.Goals as goal
@@ -29,8 +30,12 @@ returns-in-Ok-append_solid g c =
       uncut = λ tells. tt;
       any_moment = λ tells. begun_opening m.file m.solid m.moment m.left_since n reading old new c.as_bytes.result.now c.in-Ok.opening.logged.queue
           (c.requires tells) text b.settled (c.append_solid.ensures.any_moment tells);
+      others = λ tells. record { same = c.append_solid.ensures.others tells; quiet = c.append_solid.ensures.quiet tells };
       known = c.in-Ok-append_solid.ensures.known.learnt;
+      stays = λ other k. c.append_solid.ensures.known.stays other k;
       told = c.append_solid.ensures.told;
+      later = c.append_solid.ensures.cause.later;
+      steady = c.in-Ok-append_solid.ensures.cause.quiet refl;
     }
 
 pub returns-in_default : goal.returns-in_default
@@ -46,8 +51,12 @@ returns-in_default g c =
       uncut = λ tells. uncut_same bytes bytes c.args.reading refl;
       any_moment = λ tells. kept_opening m.file m.solid m.moment m.left_since n c.args.reading old old
           (keeps_none m.file m.solid m.moment m.left_since n old (λ image left. g.met.D.Store.only_now old n image tells left));
+      others = λ tells. others_none m.file m.solid m.moment m.left_since n old (λ other image left. g.met.D.Store.only_now old other image tells left);
       known = tt;
+      stays = λ other k. k;
       told = refl;
+      later = omega arith;
+      steady = tt;
     }
 
 pub returns : goal.returns
@@ -71,6 +80,10 @@ returns g c =
           uncut_part bytes (bytes_in (m.file new n)) c.as_bytes.result.now part.0 reading (c.requires tells) text part.1;
       any_moment = λ tells. begun_opening m.file m.solid m.moment m.left_since n reading old new c.as_bytes.result.now c.in-Ok.opening.logged.queue
           (c.requires tells) text e.begun.settled (c.append_solid.ensures.any_moment tells);
+      others = λ tells. record { same = c.append_solid.ensures.others tells; quiet = c.append_solid.ensures.quiet tells };
       known = tt;
+      stays = λ other k. c.append_solid.ensures.known.stays other k;
       told = c.append_solid.ensures.told;
+      later = c.append_solid.ensures.cause.later;
+      steady = tt;
     }

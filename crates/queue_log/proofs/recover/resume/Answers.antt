@@ -1,7 +1,8 @@
-use Rattle.std.proofs.Common.{◌≡◌, ◌∙◌, ◌<◌, ◌^◌, inl, inr, true, Some, length, take, sym, ap, arith}
+use Rattle.std.proofs.Common.{◌≡◌, ◌∙◌, ◌<◌, ◌^◌, inl, inr, true, Some, length, take, sym, ap, arith, refl}
 use Rattle.pool_outer.specs.Files.{bytes_in}
 use Rattle.pool_store.proofs.Moments.{leaves_fewer}
 use Rattle.queue_log.proofs.Opened.{image_after, opened_by, read_refused, too_many, whole_within}
+use Rattle.queue_log.proofs.Others.{others_both}
 use Rattle.queue_log.proofs.Pieces.{cut_bytes, size_of}
 use Rattle.queue_log.proofs.Recovery.{behind_cut, kept_opening, stands_as}
 use Rattle.queue_log.proofs.Refusals.{not_missed, store_refused}
@@ -33,8 +34,11 @@ returns-in-Err g c =
       refused = read_refused (m.tells old) (bytes_in (m.file old n)) (m.faults old) (m.faults new) c.in-Err.error c.in-Err.ensures.refused;
       uncut = λ tells. ap bytes_in (e.keeps tells).same;
       any_moment = λ tells reading. kept_opening m.file m.solid m.moment m.left_since n reading old new (e.keeps tells);
+      others = e.others;
       known = e.known;
       told = e.told;
+      later = e.later;
+      steady = tt;
     }
 
 pub returns-in-Err-opening_of : goal.returns-in-Err-opening_of
@@ -50,8 +54,11 @@ returns-in-Err-opening_of g c =
       refused = too_many (m.tells old) (bytes_in (m.file old n)) c.in-Ok.read (m.faults old) (m.faults new) c.in-Err-opening_of.error c.in-Ok.ensures.read c.in-Err-opening_of.ensures.refused;
       uncut = λ tells. ap bytes_in (e.keeps tells).same;
       any_moment = λ tells reading. kept_opening m.file m.solid m.moment m.left_since n reading old new (e.keeps tells);
+      others = e.others;
       known = e.known;
       told = e.told;
+      later = e.later;
+      steady = tt;
     }
 
 pub returns-in-Ok-cut_after : goal.returns-in-Ok-cut_after
@@ -78,8 +85,11 @@ returns-in-Ok-cut_after g c =
       uncut = λ tells. tt;
       any_moment = λ tells reading. behind_cut m.file m.solid m.moment m.left_since n reading old mid new (e.keeps tells) (cut.any_moment (e.told ∙ tells))
           (λ image left. inr (inl (stands_as bytes image (e.read tells).good (image_after bytes (small tells) log (e.read tells) (bytes_in (m.file new n)) image (m.solid new n) (is tells) (cut.solid (e.told ∙ tells)) left))));
+      others = λ tells. others_both m.file m.solid m.moment m.left_since n old mid new (e.others tells) (record { same = cut.others (e.told ∙ tells); quiet = cut.quiet (e.told ∙ tells) });
       known = λ other k. cut.known other (e.known other k);
       told = cut.told ∙ e.told;
+      later = let a = e.later in let b = cut.cause.later in omega arith;
+      steady = cut.cause.quiet refl ∙ e.steady;
     }
 
 pub returns-in-Err-cut_after : goal.returns-in-Err-cut_after
@@ -105,8 +115,11 @@ returns-in-Err-cut_after g c =
           let same = cut.refused (e.told ∙ tells) n in
           behind_cut m.file m.solid m.moment m.left_since n reading old mid new keeps (cut.any_moment (e.told ∙ tells))
           (λ image left. inl (leaves_fewer (m.file old) (m.file new) (m.solid old) (m.solid new) n image (same.0 ∙ keeps.same) (let a = same.1 in let b = keeps.no_less in omega arith) left));
+      others = λ tells. others_both m.file m.solid m.moment m.left_since n old mid new (e.others tells) (record { same = cut.others (e.told ∙ tells); quiet = cut.quiet (e.told ∙ tells) });
       known = λ other k. cut.known other (e.known other k);
       told = cut.told ∙ e.told;
+      later = let a = e.later in let b = cut.cause.later in omega arith;
+      steady = tt;
     }
 
 pub opening_of-requires : goal.opening_of-requires

@@ -1,12 +1,13 @@
-use Rattle.std.proofs.Common.{◌≡◌, ◌∙◌, inl, ◌++◌, ◌∷◌, [], List, length, ℕ, Option, Some, None, Ok, true, ap, sym, subst}
+use Rattle.std.proofs.Common.{◌≡◌, ◌∙◌, inl, ◌++◌, ◌∷◌, [], List, length, ℕ, Option, Some, None, Ok, true, ap, sym, subst, refl}
 use Rattle.pool_outer.specs.Files.{bytes_in, Leaves}
 use Rattle.receipt_roll.specs.Values.{RollMark, ReceiptValue}
 use Rattle.queue_tx.specs.Operations.{Operation}
 use Rattle.queue_tx.specs.Queues.{KeyedAds, queue_after, with_changes}
 use Rattle.queue_log.specs.declared.log.Halt.{Halt}
-use Rattle.queue_log.specs.Logs.{IsWhole, KeepsLog}
+use Rattle.queue_log.specs.Logs.{IsWhole, KeepsLog, StandsForEitherQueue}
 use Rattle.queue_log.specs.Stands.{IsBeforeOrAfter}
-use Rattle.pool_store.proofs.Moments.{begins}
+use Rattle.pool_store.proofs.Moments.{begins, weaker}
+use Rattle.queue_log.proofs.Queues.{whole_either, whole_stands}
 use Rattle.queue_log.proofs.Settled.{log_image}
 use Rattle.queue_log.proofs.log.Log.append.Goals as goal
 
@@ -178,3 +179,148 @@ returns-clause-receipt g c =
     c.commit.ensures.receipt
     ∙ ap (λ l. receipt_with l c.prepare.new.self.mark tx) (c.prepare.ensures.list ∙ ap (λ v. v.list) view)
     ∙ ap (λ k. receipt_with c.args.self.now.list k tx) (c.prepare.ensures.mark ∙ ap (λ v. v.mark) view)
+
+pub returns-in-Err-clause-others : goal.returns-in-Err-clause-others
+returns-in-Err-clause-others g c tells =
+    let m = g.D.Store in
+    let tells' : m.tells c.self.inside.store ≡ true = ap (λ v. m.tells v.store) c.self.view_is ∙ tells in
+    let named = c.as_str.ensures in
+    rw (← c.self.view_is, ← named) (c.write_tx.ensures.others tells').same
+
+pub returns-in-Err-clause-quiet : goal.returns-in-Err-clause-quiet
+returns-in-Err-clause-quiet g c tells =
+    let m = g.D.Store in
+    let tells' : m.tells c.self.inside.store ≡ true = ap (λ v. m.tells v.store) c.self.view_is ∙ tells in
+    let named = c.as_str.ensures in
+    rw (← c.self.view_is, ← named) (c.write_tx.ensures.others tells').quiet
+
+pub returns-in-Err-clause-known : goal.returns-in-Err-clause-known
+returns-in-Err-clause-known g c = rw (← c.self.view_is) (λ other k. c.write_tx.ensures.known other k)
+
+pub returns-in-Err-clause-later : goal.returns-in-Err-clause-later
+returns-in-Err-clause-later g c = rw (← c.self.view_is) c.write_tx.ensures.cause.later
+
+pub returns-clause-others : goal.returns-clause-others
+returns-clause-others g c tells =
+    let m = g.D.Store in
+    let tells' : m.tells c.self.inside.store ≡ true = ap (λ v. m.tells v.store) c.self.view_is ∙ tells in
+    let named = c.as_str.ensures in
+    rw (← c.self.view_is, ← named) (c.write_tx.ensures.others tells').same
+
+pub returns-clause-quiet : goal.returns-clause-quiet
+returns-clause-quiet g c tells =
+    let m = g.D.Store in
+    let tells' : m.tells c.self.inside.store ≡ true = ap (λ v. m.tells v.store) c.self.view_is ∙ tells in
+    let named = c.as_str.ensures in
+    rw (← c.self.view_is, ← named) (c.write_tx.ensures.others tells').quiet
+
+pub returns-clause-known : goal.returns-clause-known
+returns-clause-known g c = rw (← c.self.view_is) (λ other k. c.write_tx.ensures.known other k)
+
+pub returns-clause-later : goal.returns-clause-later
+returns-clause-later g c = rw (← c.self.view_is) c.write_tx.ensures.cause.later
+
+pub returns-clause-steady : goal.returns-clause-steady
+returns-clause-steady g c = rw (← c.self.view_is) (c.in_default-write_tx.ensures.cause.quiet refl)
+
+pub returns-in-Err-clause-any_moment_queue : goal.returns-in-Err-clause-any_moment_queue
+returns-in-Err-clause-any_moment_queue g c none tells =
+    let m = g.D.Store in
+    let me = c.self.inside in
+    let n = me.name in
+    let n' = c.as_str.result.now in
+    let named : n' ≡ n = c.as_str.ensures in
+    let old = me.store in
+    let list = me.logged.list in
+    let queue = me.logged.queue in
+    let tx = c.args.tx in
+    let after = with_changes queue c.in_ok-ready.ready.changes in
+    let done : queue_after queue tx ≡ Ok after = c.in_ok-ready.ensures.ready.done in
+    let tells' : m.tells old ≡ true = ap (λ v. m.tells v.store) c.self.view_is ∙ tells in
+    let w : IsWhole list queue (bytes_in (m.file old n')) (m.solid old n') =
+    subst (λ z. IsWhole list queue (bytes_in (m.file old z)) (m.solid old z)) (sym named)
+    (kept_whole me.halt list queue (bytes_in (m.file old n)) (m.solid old n) c.in_default.is (c.self.invariant.1 tells')) in
+    rw (← c.self.view_is, ← named)
+    (weaker m.moment m.left_since n' old c.write_tx.new.store (IsBeforeOrAfter list tx) (StandsForEitherQueue queue tx) (c.write_tx.ensures.any_moment tells' list queue after w done)
+    (λ image i. whole_either list queue after tx (bytes_in (m.file old n')) image (m.solid old n') w done i))
+
+pub returns-clause-any_moment_queue : goal.returns-clause-any_moment_queue
+returns-clause-any_moment_queue g c none tells =
+    let m = g.D.Store in
+    let me = c.self.inside in
+    let n = me.name in
+    let n' = c.as_str.result.now in
+    let named : n' ≡ n = c.as_str.ensures in
+    let old = me.store in
+    let list = me.logged.list in
+    let queue = me.logged.queue in
+    let tx = c.args.tx in
+    let after = with_changes queue c.in_ok-ready.ready.changes in
+    let done : queue_after queue tx ≡ Ok after = c.in_ok-ready.ensures.ready.done in
+    let tells' : m.tells old ≡ true = ap (λ v. m.tells v.store) c.self.view_is ∙ tells in
+    let w : IsWhole list queue (bytes_in (m.file old n')) (m.solid old n') =
+    subst (λ z. IsWhole list queue (bytes_in (m.file old z)) (m.solid old z)) (sym named)
+    (kept_whole me.halt list queue (bytes_in (m.file old n)) (m.solid old n) c.in_default.is (c.self.invariant.1 tells')) in
+    rw (← c.self.view_is, ← named)
+    (weaker m.moment m.left_since n' old c.write_tx.new.store (IsBeforeOrAfter list tx) (StandsForEitherQueue queue tx) (c.write_tx.ensures.any_moment tells' list queue after w done)
+    (λ image i. whole_either list queue after tx (bytes_in (m.file old n')) image (m.solid old n') w done i))
+
+pub returns-in_err-ready-clause-any_moment_queue : goal.returns-in_err-ready-clause-any_moment_queue
+returns-in_err-ready-clause-any_moment_queue g c none tells =
+    let m = g.D.Store in
+    let me = c.self.inside in
+    let n = me.name in
+    let old = me.store in
+    let list = me.logged.list in
+    let queue = me.logged.queue in
+    let bytes = bytes_in (m.file old n) in
+    let tells' : m.tells old ≡ true = ap (λ v. m.tells v.store) c.self.view_is ∙ tells in
+    let w : IsWhole list queue bytes (m.solid old n) = kept_whole me.halt list queue bytes (m.solid old n) c.in_default.is (c.self.invariant.1 tells') in
+    rw (← c.self.view_is)
+    (begins m.moment m.left_since n old (StandsForEitherQueue queue c.args.tx)
+    (λ image left. inl (whole_stands list queue bytes image (m.solid old n) w (log_image None list queue bytes image (m.solid old n) w (g.met.D.Store.only_now old n image tells' left)))))
+
+pub returns-clause-durable_queue : goal.returns-clause-durable_queue
+returns-clause-durable_queue g c tells image left =
+    let m = g.D.Store in
+    let me = c.self.inside in
+    let n = me.name in
+    let n' = c.as_str.result.now in
+    let named : n' ≡ n = c.as_str.ensures in
+    let old = me.store in
+    let new = c.write_tx.new.store in
+    let list = me.logged.list in
+    let queue = me.logged.queue in
+    let tx = c.args.tx in
+    let after = with_changes queue c.in_ok-ready.ready.changes in
+    let done : queue_after queue tx ≡ Ok after = c.in_ok-ready.ensures.ready.done in
+    let kept = c.prepare.ensures in
+    let made = c.commit.ensures in
+    let tells' : m.tells old ≡ true = ap (λ v. m.tells v.store) c.self.view_is ∙ tells in
+    let bytes = bytes_in (m.file new n') in
+    let solid = m.solid new n' in
+    let w : IsWhole list queue (bytes_in (m.file old n')) (m.solid old n') =
+    subst (λ z. IsWhole list queue (bytes_in (m.file old z)) (m.solid old z)) (sym named)
+    (kept_whole me.halt list queue (bytes_in (m.file old n)) (m.solid old n) c.in_default.is (c.self.invariant.1 tells')) in
+    let whole : IsWhole c.commit.new.self.list c.commit.new.self.queue bytes solid =
+    kept_whole me.halt c.commit.new.self.list c.commit.new.self.queue bytes solid c.in_default.is
+    (whole_kept me.halt list c.prepare.new.self.list c.commit.new.self.list queue c.prepare.new.self.queue after c.commit.new.self.queue tx bytes solid c.in_default.is
+    (c.in_default-write_tx.ensures.whole tells' list queue after w done) done kept.list kept.queue made.list made.queue) in
+    whole_stands c.commit.new.self.list c.commit.new.self.queue bytes image solid whole
+    (log_image None c.commit.new.self.list c.commit.new.self.queue bytes image solid whole (subst (λ z. Leaves (m.file new) (m.solid new) z image) (sym named) left))
+
+pub returns-in_err-ready-clause-quiet : goal.returns-in_err-ready-clause-quiet
+returns-in_err-ready-clause-quiet g c tells other apart =
+    let m = g.D.Store in
+    let old = c.self.inside.store in
+    let tells' : m.tells old ≡ true = ap (λ v. m.tells v.store) c.self.view_is ∙ tells in
+    rw (← c.self.view_is)
+    (begins m.moment m.left_since other old (Leaves (m.file old) (m.solid old) other) (λ image left. g.met.D.Store.only_now old other image tells' left))
+
+pub returns-in-Some-clause-quiet : goal.returns-in-Some-clause-quiet
+returns-in-Some-clause-quiet g c tells other apart =
+    let m = g.D.Store in
+    let old = c.self.inside.store in
+    let tells' : m.tells old ≡ true = ap (λ v. m.tells v.store) c.self.view_is ∙ tells in
+    rw (← c.self.view_is)
+    (begins m.moment m.left_since other old (Leaves (m.file old) (m.solid old) other) (λ image left. g.met.D.Store.only_now old other image tells' left))
