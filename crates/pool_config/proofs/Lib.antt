@@ -1,6 +1,7 @@
 pub mod Becoming
 pub mod EachSlots
 pub mod Expressions
+pub mod InRange
 pub mod Kept
 pub mod Limits
 pub mod Literals
@@ -10,5 +11,6 @@ pub mod Own
 pub mod Owners
 pub mod Readings
 pub mod SlotLemmas
+pub mod Throughout
 pub mod Times
 pub mod UserLemmas

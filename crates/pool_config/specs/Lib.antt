@@ -5,6 +5,7 @@ pub mod Laws
 pub mod Lines
 pub mod LinesSoFar
 pub mod Names
+pub mod Ranges
 pub mod Settings
 pub mod Slots
 pub mod SoFar

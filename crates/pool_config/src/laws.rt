@@ -9,6 +9,7 @@ ghost use Rattle.pool_config.specs.declared.setting_word.Interval.{Interval};
 ghost use Rattle.pool_config.specs.Configuration.{Configuration, plain_configuration, total_slots};
 ghost use Rattle.pool_config.specs.Laws.{CountsLast, IsFirstRefused, seconds_of};
 ghost use Rattle.pool_config.specs.Lines.{IsConfiguration, ReadResult, begun};
+ghost use Rattle.pool_config.specs.Ranges.{HasSeconds, HasUsers};
 ghost use Rattle.pool_config.specs.Slots.{configured_slots, pool_attributes, slot_ad};
 
 /// A text is a configuration or is refused, and once.
@@ -35,6 +36,16 @@ pub fn last_time_counts()
 pub fn owner_is_a_name()
     ensures { (text : List ℕ) (c : Configuration) → IsConfiguration text (Ok c)
         → is_name c.owner ≡ true }
+{}
+
+/// Each time is from its least, 1 or 0, to `MAX_SECONDS`.
+pub fn seconds_are_in_range()
+    ensures { (text : List ℕ) (c : Configuration) → IsConfiguration text (Ok c) → HasSeconds c }
+{}
+
+/// Each ceiling is at most `MAX_CEILING`, and each factor from 1 to `MAX_FACTOR`.
+pub fn users_are_in_range()
+    ensures { (text : List ℕ) (c : Configuration) → IsConfiguration text (Ok c) → HasUsers c }
 {}
 
 /// There are as many slots as the machines say.
