@@ -1,0 +1,4 @@
+pub mod Counted
+pub mod Keeping
+pub mod Lists
+pub mod Tables

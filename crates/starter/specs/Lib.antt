@@ -1,0 +1,3 @@
+pub mod ChildTables
+pub mod Launchers
+pub mod Spawners
