@@ -1,4 +1,5 @@
 mod ContentLemmas
+mod CopyLemmas
 mod FoldLemmas
 pub mod LiteralLemmas
 pub mod ValueLemmas

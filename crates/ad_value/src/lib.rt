@@ -2,6 +2,8 @@
 //! lists; and the names of the attributes of ads.
 #![tactic(auto)]
 
+mod copied;
+pub mod limits;
 mod literal;
 mod memory;
 mod name;
@@ -14,12 +16,13 @@ mod truth;
 mod user_number;
 mod value;
 
+pub use copied::{Copied, copy_items};
 pub use literal::write_item_separator;
 pub use memory::Memory;
 pub use name::same_name;
 pub use number::number_in;
 pub use order::{Order, fold_cmp, fold_eq};
-pub use seq::{Copied, Seq};
+pub use seq::Seq;
 pub use text::{Text, TextList};
 pub use truth::Truth;
 pub use user_number::{UserNumber, UserNumberList};

@@ -1,15 +1,8 @@
-ghost use Rattle.std.specs.Prelude.{◌≡◌, [], ◌++◌, ◌∷◌, IfOk, OnOk, OnErr, IsTrue, ◌↔◌, length};
+ghost use Rattle.std.specs.Prelude.{◌≡◌, [], ◌++◌, ◌∷◌, OnOk, OnErr, IsTrue, ◌↔◌, length};
 
 use crate::memory::Memory;
 use std::alloc::Global;
 use std::marker::Model;
-
-/// Plain data of which an equal value can be made, where there is memory.
-pub trait Copied: Drop {
-    /// An equal value. Computes in O(size).
-    fn copy(&self, alloc: Global) -> Result<Self, Memory>
-        ensures { IfOk result (λ c. c ≡ self.now) };
-}
 
 /// A list, which contracts see as its items alone, whatever room it has.
 #[derive(Drop)]
@@ -81,15 +74,5 @@ impl<T: Drop> Seq<T> {
     {
         self.items.push(item)?;
         Ok(())
-    }
-}
-
-impl<T: Copied> Copied for Seq<T> {
-    fn copy(&self, alloc: Global) -> Result<Self, Memory> {
-        let mut list = Seq::new(alloc);
-        for item in &self.items {
-            list.push(item.copy(alloc)?)?;
-        }
-        Ok(list)
     }
 }

@@ -1,7 +1,8 @@
 ghost use Rattle.std.specs.Prelude.{◌≡◌, [], IfOk, IsTrue, ◌↔◌, string_bytes};
 
+use crate::copied::Copied;
 use crate::memory::Memory;
-use crate::seq::{Copied, Seq};
+use crate::seq::Seq;
 use std::alloc::Global;
 use std::fmt;
 use std::marker::Model;

@@ -1,5 +1,6 @@
+use crate::copied::Copied;
 use crate::memory::Memory;
-use crate::seq::{Copied, Seq};
+use crate::seq::Seq;
 use crate::text::Text;
 use std::alloc::Global;
 

@@ -2,8 +2,8 @@ ghost use Rattle.std.specs.Prelude.{◌≡◌, ◌↔◌, IfOk, IsTrue};
 ghost use Rattle.ad_value.specs.Content.{content, contents};
 ghost use Rattle.ad_value.specs.Gives.{GivesValue};
 
+use crate::copied::Copied;
 use crate::memory::Memory;
-use crate::seq::Copied;
 use crate::text::Text;
 use std::alloc::Global;
 

@@ -1,6 +1,8 @@
 //! What a job's ad has from its submission on, in the order of the ad (HTCondor manual, Job ClassAd
 //! Attributes).
 
+ghost use Rattle.std.specs.Prelude.{◌≡◌, codes};
+
 /// The number of its cluster.
 pub const CLUSTER_ID: &str = "ClusterId";
 /// Its number in the cluster, from 0.
@@ -49,3 +51,31 @@ pub const PERIODIC_HOLD: &str = "PeriodicHold";
 pub const PERIODIC_REMOVE: &str = "PeriodicRemove";
 /// When a hold ends.
 pub const PERIODIC_RELEASE: &str = "PeriodicRelease";
+
+/// The names are these texts.
+pub fn texts_are()
+    ensures cluster_id { CLUSTER_ID.now ≡ codes "ClusterId" }
+    ensures proc_id { PROC_ID.now ≡ codes "ProcId" }
+    ensures owner { OWNER.now ≡ codes "Owner" }
+    ensures q_date { Q_DATE.now ≡ codes "QDate" }
+    ensures job_universe { JOB_UNIVERSE.now ≡ codes "JobUniverse" }
+    ensures job_status { JOB_STATUS.now ≡ codes "JobStatus" }
+    ensures cmd { CMD.now ≡ codes "Cmd" }
+    ensures args { ARGS.now ≡ codes "Args" }
+    ensures arguments { ARGUMENTS.now ≡ codes "Arguments" }
+    ensures iwd { IWD.now ≡ codes "Iwd" }
+    ensures input { IN.now ≡ codes "In" }
+    ensures output { OUT.now ≡ codes "Out" }
+    ensures error { ERR.now ≡ codes "Err" }
+    ensures user_log { USER_LOG.now ≡ codes "UserLog" }
+    ensures job_prio { JOB_PRIO.now ≡ codes "JobPrio" }
+    ensures request_cpus { REQUEST_CPUS.now ≡ codes "RequestCpus" }
+    ensures request_memory { REQUEST_MEMORY.now ≡ codes "RequestMemory" }
+    ensures request_disk { REQUEST_DISK.now ≡ codes "RequestDisk" }
+    ensures job_lease_duration { JOB_LEASE_DURATION.now ≡ codes "JobLeaseDuration" }
+    ensures on_exit_hold { ON_EXIT_HOLD.now ≡ codes "OnExitHold" }
+    ensures on_exit_remove { ON_EXIT_REMOVE.now ≡ codes "OnExitRemove" }
+    ensures periodic_hold { PERIODIC_HOLD.now ≡ codes "PeriodicHold" }
+    ensures periodic_remove { PERIODIC_REMOVE.now ≡ codes "PeriodicRemove" }
+    ensures periodic_release { PERIODIC_RELEASE.now ≡ codes "PeriodicRelease" }
+{}

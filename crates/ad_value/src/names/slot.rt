@@ -1,5 +1,7 @@
 //! What a slot's ad has, in the order of the ad (HTCondor manual, Machine ClassAd Attributes).
 
+ghost use Rattle.std.specs.Prelude.{◌≡◌, codes};
+
 /// `"Machine"`, the kind of the ad.
 pub const MY_TYPE: &str = "MyType";
 /// `slotK@MACHINE`.
@@ -20,3 +22,17 @@ pub const MEMORY: &str = "Memory";
 pub const DISK: &str = "Disk";
 /// Which jobs it starts.
 pub const START: &str = "Start";
+
+/// The names are these texts.
+pub fn texts_are()
+    ensures my_type { MY_TYPE.now ≡ codes "MyType" }
+    ensures name { NAME.now ≡ codes "Name" }
+    ensures machine { MACHINE.now ≡ codes "Machine" }
+    ensures slot_id { SLOT_ID.now ≡ codes "SlotID" }
+    ensures op_sys { OP_SYS.now ≡ codes "OpSys" }
+    ensures arch { ARCH.now ≡ codes "Arch" }
+    ensures cpus { CPUS.now ≡ codes "Cpus" }
+    ensures memory { MEMORY.now ≡ codes "Memory" }
+    ensures disk { DISK.now ≡ codes "Disk" }
+    ensures start { START.now ≡ codes "Start" }
+{}
