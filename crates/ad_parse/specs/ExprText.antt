@@ -4,7 +4,7 @@ use Rattle.ad_tree.specs.Tree.{Tree}
 use Rattle.ad_token.specs.Lexing.{tokens_of}
 use Rattle.ad_parse.specs.declared.error.ParseError.{ParseError}
 use Rattle.ad_parse.specs.declared.error.ParseError.TheVariants as fault
-use Rattle.ad_parse.specs.declared.expression.TheConstants.{LONGEST}
+use Rattle.ad_value.specs.declared.limits.TheConstants.{MAX_EXPRESSION}
 use Rattle.ad_parse.specs.Canon.{canon}
 use Rattle.ad_parse.specs.Grammar.{IsText}
 use Rattle.ad_parse.specs.Misfit.{FirstMisfit}
@@ -12,28 +12,28 @@ use Rattle.ad_parse.specs.Reader.{◌>>=◌, text_at}
 
 -- the text's tokens spell the expression, and neither text is too long
 pub record IsExprText (text : List ℕ) (e : Tree) : Type 0 where
-  pub short : length text ≤ LONGEST
+  pub short : length text ≤ MAX_EXPRESSION
   pub spelled : IsText (tokens_of text) e
-  pub prints_short : length (canon e) ≤ LONGEST
+  pub prints_short : length (canon e) ≤ MAX_EXPRESSION
 
 -- The text is too long, or has a first token, or an end, where it leaves the grammar, or its
 -- canonical text is too long.
 pub data IsRefused (text : List ℕ) : ParseError → Type 0 where
-  long : LONGEST < length text → IsRefused text (fault.TooLong (length text))
+  long : MAX_EXPRESSION < length text → IsRefused text (fault.TooLong (length text))
   misfit : {f : ParseError}
-      → length text ≤ LONGEST → FirstMisfit (length text) (tokens_of text) f → IsRefused text f
+      → length text ≤ MAX_EXPRESSION → FirstMisfit (length text) (tokens_of text) f → IsRefused text f
   prints_long : {e : Tree}
-      → length text ≤ LONGEST → IsText (tokens_of text) e → LONGEST < length (canon e)
+      → length text ≤ MAX_EXPRESSION → IsText (tokens_of text) e → MAX_EXPRESSION < length (canon e)
       → IsRefused text (fault.TooLong (length (canon e)))
 
 -- ---- the same as a function: what reading gives
 
 abbrev pub when_short : Tree → Result Tree ParseError
 when_short e =
-    if nat_lt LONGEST (length (canon e)) then Err (fault.TooLong (length (canon e)))
+    if nat_lt MAX_EXPRESSION (length (canon e)) then Err (fault.TooLong (length (canon e)))
     else Ok e
 
 abbrev pub expression_at : List ℕ → Result Tree ParseError
 expression_at text =
-    if nat_lt LONGEST (length text) then Err (fault.TooLong (length text))
+    if nat_lt MAX_EXPRESSION (length text) then Err (fault.TooLong (length text))
     else text_at (length text) (tokens_of text) >>= when_short

@@ -3,7 +3,7 @@ use Rattle.std.specs.Prelude.{◌≡◌, ℕ, ◌+◌, ◌^◌, ◌<◌, ◌≤�
 use Rattle.ad_value.specs.Content.{Content, Contents, undefined, error, truth, integer, text, items, no_contents, and_content}
 use Rattle.ad_value.specs.Literal.{literal_text}
 use Rattle.ad_token.specs.Canonical.{is_line}
-use Rattle.ad_parse.specs.declared.expression.TheConstants.{LONGEST}
+use Rattle.ad_value.specs.declared.limits.TheConstants.{MAX_EXPRESSION}
 use Rattle.ad_parse.specs.declared.parse.TheConstants.{MOST_NESTED}
 
 -- of 64 bits
@@ -44,4 +44,4 @@ abbrev mutual
 pub record HasReadableLiteral (c : Content) : Type 0 where
   pub plain : IsPlain c
   pub shallow : nesting c ≤ MOST_NESTED
-  pub short : length (literal_text c) ≤ LONGEST
+  pub short : length (literal_text c) ≤ MAX_EXPRESSION

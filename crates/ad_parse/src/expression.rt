@@ -11,10 +11,8 @@ use crate::parse::parse_tokens;
 use crate::print::print_expr;
 use ad_token::tokens;
 use ad_tree::Expr;
+use ad_value::limits::MAX_EXPRESSION;
 use std::alloc::Global;
-
-// How many bytes a text and a canonical text may have.
-const LONGEST: usize = 8192;
 
 /// The expression that a text says (HTCondor manual, "ClassAd syntax"). Computes in O(bytes of the
 /// text and of its canonical text).
@@ -36,7 +34,7 @@ pub(crate) fn read_text(alloc: Global, text: &str) -> Result<Expr, ParseError>
     ensures { Gives tree result (expression_at text.now) }
 {
     let length = text.len() as u64;
-    if text.len() > LONGEST {
+    if text.len() > MAX_EXPRESSION {
         return Err(ParseError::TooLong { length });
     }
     let list = tokens(alloc, text)?;
@@ -50,7 +48,7 @@ fn when_short(alloc: Global, expr: Expr) -> Result<Expr, ParseError>
 {
     let text = print_expr(alloc, &expr)?;
     let length = text.as_str().len();
-    if length > LONGEST {
+    if length > MAX_EXPRESSION {
         return Err(ParseError::TooLong {
             length: length as u64,
         });

@@ -110,6 +110,14 @@ impl Ad {
         self.places.len()
     }
 
+    /// What holds of every ad: no two names are the same. Computes in O(1), without memory.
+    pub fn soundness(&self)
+        ensures few { length self.now ≤ MAX_ATTRIBUTES }
+        ensures distinct { AreDistinct self.now }
+    {
+        let _ = &self.places;
+    }
+
     /// Whether there are no attributes. Computes in O(1).
     pub fn is_empty(&self) -> bool
         ensures { IsTrue result ↔ (self.now ≡ []) }

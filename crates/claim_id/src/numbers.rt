@@ -1,5 +1,8 @@
 ghost use Rattle.std.specs.Prelude.{◌≡◌, ◌+◌, ◌*◌, ◌^◌};
 
+use ad_value::{Copied, Memory};
+use std::alloc::Global;
+
 /// A job's number (HTCondor manual, Job ClassAd Attributes, ClusterId and ProcId). Jobs stand in
 /// order of cluster, then of proc.
 #[derive(Clone, Copy, Debug, PartialEq, Eq, PartialOrd, Ord, Hash)]
@@ -43,6 +46,18 @@ pub struct ClaimId {
 pub struct RunNo {
     pub claim: ClaimNo,
     pub number: u64,
+}
+
+impl Copied for JobId {
+    fn copy(&self, _: Global) -> Result<JobId, Memory> {
+        Ok(*self)
+    }
+}
+
+impl Copied for RunNo {
+    fn copy(&self, _: Global) -> Result<RunNo, Memory> {
+        Ok(*self)
+    }
 }
 
 /// The number of a machine's boot: later boots of the pool have greater ones, and so have later

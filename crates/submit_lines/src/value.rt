@@ -12,11 +12,9 @@ use crate::expressions::{canonical_expression, expression, string_expression};
 use crate::{Amount, AmountUnit, integer, plain_arguments, quoted_arguments, read_amount};
 use ad_rows::{enough, with_enough};
 use ad_tree::Expr;
+use ad_value::limits::MAX_SECONDS;
 use ad_value::{Text, Value};
 use std::alloc::Global;
-
-// The longest lease of a job, in seconds.
-const LONGEST_LEASE: i64 = 1_000_000;
 
 impl Command {
     /// What a value of the command sets its attribute to, if it has one, once macros are replaced.
@@ -151,7 +149,7 @@ fn lease_of(n: Option<i64>) -> Option<i64>
     ensures { result ≡ lease_of n }
 {
     match n {
-        Some(n) if 1 <= n && n <= LONGEST_LEASE => Some(n),
+        Some(n) if 1 <= n && n <= MAX_SECONDS as i64 => Some(n),
         _ => None,
     }
 }
