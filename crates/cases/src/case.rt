@@ -37,7 +37,7 @@ fn read_case(line: u64, text: &str) -> Case<'_> {
 }
 
 impl<'a> Case<'a> {
-    /// Its one field after the kind.
+    /// Its one field after the kind. Computes in O(bytes of the line), without memory.
     pub fn one_field(self) -> Result<&'a str, CaseError>
         ensures { IfErr result (IsFieldsAt self.entry.line) }
     {
@@ -48,7 +48,7 @@ impl<'a> Case<'a> {
         }
     }
 
-    /// Its two fields after the kind.
+    /// Its two fields after the kind. Computes in O(bytes of the line), without memory.
     pub fn two_fields(self) -> Result<(&'a str, &'a str), CaseError>
         ensures { IfErr result (IsFieldsAt self.entry.line) }
     {
@@ -59,7 +59,7 @@ impl<'a> Case<'a> {
         }
     }
 
-    /// Its three fields after the kind.
+    /// Its three fields after the kind. Computes in O(bytes of the line), without memory.
     pub fn three_fields(self) -> Result<(&'a str, &'a str, &'a str), CaseError>
         ensures { IfErr result (IsFieldsAt self.entry.line) }
     {
@@ -70,7 +70,7 @@ impl<'a> Case<'a> {
         }
     }
 
-    /// Its four fields after the kind.
+    /// Its four fields after the kind. Computes in O(bytes of the line), without memory.
     pub fn four_fields(self) -> Result<(&'a str, &'a str, &'a str, &'a str), CaseError>
         ensures { IfErr result (IsFieldsAt self.entry.line) }
     {
@@ -90,7 +90,8 @@ impl<'a> Case<'a> {
     }
 
     /// Its fields after the kind, however many. Where they are to be a given number, a caller
-    /// matches the list, `let [first, second] = fields.as_slice() else ..`.
+    /// matches the list, `let [first, second] = fields.as_slice() else ..`. Computes in O(bytes of
+    /// the line).
     pub fn all_fields(self, alloc: Global) -> Result<Vec<&'a str>, CaseError>
         ensures { IfErr result IsMemory }
     {
@@ -101,7 +102,7 @@ impl<'a> Case<'a> {
         Ok(fields)
     }
 
-    /// The bytes that a field stands for.
+    /// The bytes that a field stands for. Computes in O(bytes of the field).
     pub fn bytes(self, alloc: Global, field: &str) -> Result<Vec<u8>, CaseError>
         ensures { IfErr result (IsEscapeAt self.entry.line) }
     {
@@ -111,7 +112,7 @@ impl<'a> Case<'a> {
         }
     }
 
-    /// The text that a field stands for.
+    /// The text that a field stands for. Computes in O(bytes of the field).
     pub fn text(self, alloc: Global, field: &str) -> Result<String, CaseError>
         ensures { IfErr result (IsTextAt self.entry.line) }
     {
@@ -121,7 +122,7 @@ impl<'a> Case<'a> {
         }
     }
 
-    /// A field as a number.
+    /// A field as a number. Computes in O(bytes of the field), without memory.
     pub fn natural(self, field: &str) -> Result<u64, CaseError>
         ensures { IfErr result (IsNumberAt self.entry.line) }
     {
@@ -131,7 +132,8 @@ impl<'a> Case<'a> {
         }
     }
 
-    /// A field as a number with or without a sign.
+    /// A field as a number with or without a sign. Computes in O(bytes of the field), without
+    /// memory.
     pub fn integer(self, field: &str) -> Result<i64, CaseError>
         ensures { IfErr result (IsNumberAt self.entry.line) }
     {
