@@ -21,7 +21,8 @@ pub record IsExprText (text : List ℕ) (e : Tree) : Type 0 where
 pub data IsRefused (text : List ℕ) : ParseError → Type 0 where
   long : MAX_EXPRESSION < length text → IsRefused text (fault.TooLong (length text))
   misfit : {f : ParseError}
-      → length text ≤ MAX_EXPRESSION → FirstMisfit (length text) (tokens_of text) f → IsRefused text f
+      → length text ≤ MAX_EXPRESSION → FirstMisfit (length text) (tokens_of text) f
+      → IsRefused text f
   prints_long : {e : Tree}
       → length text ≤ MAX_EXPRESSION → IsText (tokens_of text) e → MAX_EXPRESSION < length (canon e)
       → IsRefused text (fault.TooLong (length (canon e)))
