@@ -11,6 +11,7 @@ ghost use Rattle.ad_eval.specs.declared.sides.Side.{Side};
 ghost use Rattle.ad_eval.specs.Laws.{FindsWhatIsThere, MeansTheSameExchanged, IsIdentity, SettlesWhereRightIsIdle, IsConditional};
 ghost use Rattle.ad_eval.specs.Match.{matches, requirements_hold};
 ghost use Rattle.ad_eval.specs.Mean.{Ads, NameValues};
+ghost use Rattle.ad_eval.specs.declared.progress.TheConstants.{MOST_IN_PROGRESS};
 
 use crate::judging::Judged;
 use crate::mismatch::NoMatch;
@@ -77,4 +78,9 @@ pub fn left_side_settles()
 pub fn if_then_else_is_conditional()
     ensures { (look : NameValues) (now : ℕ) (x : List ℕ) (t y n : Tree)
         → IsConditional look now x t y n }
+{}
+
+/// The limit of attributes in progress is this number. Does nothing.
+pub fn limits_are()
+    ensures { MOST_IN_PROGRESS ≡ 32 }
 {}

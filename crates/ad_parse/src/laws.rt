@@ -18,6 +18,7 @@ ghost use Rattle.ad_parse.specs.AdLines.{IsAdText, IsAdRefused};
 ghost use Rattle.ad_parse.specs.Grammar.{IsText, IsCond};
 ghost use Rattle.ad_parse.specs.Spelling.{spell};
 ghost use Rattle.ad_parse.specs.ValueText.{HasReadableLiteral};
+ghost use Rattle.ad_parse.specs.declared.parse.TheConstants.{MOST_NESTED};
 
 /// A text says one expression, or is refused for one cause.
 pub fn a_text_says_one_thing()
@@ -63,4 +64,9 @@ pub fn literals_are_read()
 pub fn ad_texts_are_read()
     ensures found { (text : List ℕ) (ad : Attributes) → (ad_at text ≡ Ok ad) ↔ IsAdText text ad }
     ensures refused { (text : List ℕ) (f : AdError) → (ad_at text ≡ Err f) ↔ IsAdRefused text f }
+{}
+
+/// The limit of nesting is this number.
+pub fn limits_are()
+    ensures { MOST_NESTED ≡ 64 }
 {}

@@ -125,3 +125,8 @@ pub fn marks_are_the_longest()
         → BeginsNoOther b → ((t : Token) → StandsAt (b ∷ bs) t → ⊥)
         → token_at (b ∷ bs) ≡ (token.Bad, 1) }
 {}
+
+/// The limit of a name's length, in bytes, is this number.
+pub fn limits_are()
+    ensures { MAX_NAME ≡ 128 }
+{}

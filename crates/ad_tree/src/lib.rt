@@ -2,6 +2,7 @@
 #![tactic(auto)]
 
 mod ad;
+pub mod laws;
 mod name;
 mod operator;
 mod places;

@@ -10,6 +10,7 @@ ghost use Rattle.line_text.specs.Macros.{Macros};
 ghost use Rattle.line_text.specs.Expansion.{Expands, IsExpansion, IsRefused, Meets, Passes};
 ghost use Rattle.line_text.specs.declared.error.MacroError.{MacroError};
 ghost use Rattle.line_text.specs.declared.error.MacroError.TheVariants as error;
+ghost use Rattle.line_text.specs.declared.expansion.TheConstants.{MAX_EXPANSION};
 
 /// Logical lines are the lines of the text, joined where one ends in a backslash, without those
 /// that say nothing, each with the number of its first line.
@@ -51,4 +52,9 @@ pub fn every_text_has_an_outcome()
     ensures { (t : Macros) (text : List ℕ)
         → ((x : List ℕ) × IsExpansion t text x)
         ⊎ ((e : MacroError) × (e ≢ error.Memory) × IsRefused t text e) }
+{}
+
+/// The limit of an expansion, in bytes, is this number.
+pub fn limits_are()
+    ensures { MAX_EXPANSION ≡ 65536 }
 {}

@@ -3,6 +3,7 @@
 
 mod error;
 mod growth;
+pub mod laws;
 mod receipt;
 mod roll;
 mod rule;
